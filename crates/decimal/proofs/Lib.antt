@@ -1,0 +1,11 @@
+pub mod Bounded
+pub mod Verdicts
+pub mod Tables
+pub mod Cancels
+pub mod Spelling
+pub mod Padding
+pub mod Rows
+pub mod Grouping
+pub mod Printing
+pub mod Returning
+pub mod Noticing

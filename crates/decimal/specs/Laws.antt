@@ -1,0 +1,39 @@
+-- What holds of every text and of all blocks: Round-trip, Notices-wrong-digit, swapped, Notices-swap, Known-check-digits.
+use mathlib.Core.Path.{_≡_}
+use mathlib.Core.Bool.{true}
+use mathlib.Core.List.{List, [], _∷_, _++_}
+use Prim.Native.Nat.{ℕ, _+_, _-_, _%_, _^_, _<_, _≤_}
+use lib.ListN.{length, getD, set, take, replicate}
+use Rattle.std.specs.shelf.Digits.{Under}
+use Rattle.std.specs.declared.result.Result.the-variants.{Ok, Err}
+use Rattle.refusal.specs.declared.Refusal.the-variants.{CheckDigit}
+use Rattle.decimal.specs.declared.blocks.Blocks.{Blocks}
+use Rattle.decimal.specs.Digits.{isDigit}
+use Rattle.decimal.specs.CheckDigits.{check-digit}
+use Rattle.decimal.specs.Groups.{blocksOf}
+use Rattle.decimal.specs.Slips.{textOf}
+
+-- Reading undoes writing, and writing undoes reading: blocks have one text, and a text that comes to blocks is that one.
+pub record Round-trip : Type 0 where
+  pub there : (bs : List ℕ) → 1 ≤ length bs → length bs ≤ 4 → Under (2 ^ 61) bs →
+      blocksOf (textOf bs) ≡ Ok (record { groups = length bs; words = bs ++ replicate (4 - length bs) 0 })
+  pub back : (text : List ℕ) (b : Blocks) → blocksOf text ≡ Ok b → text ≡ textOf (take (b .groups) (b .words))
+
+-- A text that comes to blocks, with another digit at any one place, is refused for a check digit.
+abbrev pub Notices-wrong-digit : Type 0
+Notices-wrong-digit = (text : List ℕ) (b : Blocks) (k byte : ℕ) → blocksOf text ≡ Ok b →
+    k < length text → isDigit byte ≡ true → (byte ≡ getD text k 0 → ⊥) → blocksOf (set text k byte) ≡ Err CheckDigit
+
+-- the places k and k + 1 exchanged
+abbrev pub swapped : List ℕ → ℕ → List ℕ
+swapped text k = set (set text k (getD text (k + 1) 0)) (k + 1) (getD text k 0)
+
+-- So is one with two different neighbours exchanged, both among the first nineteen of their group.
+abbrev pub Notices-swap : Type 0
+Notices-swap = (text : List ℕ) (b : Blocks) (k : ℕ) → blocksOf text ≡ Ok b →
+    k < length text → k % 20 < 18 → (getD text k 0 ≡ getD text (k + 1) 0 → ⊥) → blocksOf (swapped text k) ≡ Err CheckDigit
+
+-- Two rows of digits whose check digits are known, a first group's and one with a check digit in front.
+pub record Known-check-digits : Type 0 where
+  pub nineteen : check-digit (8 ∷ 8 ∷ 8 ∷ 9 ∷ 7 ∷ 9 ∷ 3 ∷ 7 ∷ 2 ∷ 3 ∷ 8 ∷ 2 ∷ 0 ∷ 9 ∷ 2 ∷ 7 ∷ 0 ∷ 1 ∷ 8 ∷ []) ≡ 1
+  pub twenty : check-digit (1 ∷ 0 ∷ 1 ∷ 6 ∷ 6 ∷ 0 ∷ 9 ∷ 9 ∷ 2 ∷ 1 ∷ 8 ∷ 6 ∷ 6 ∷ 9 ∷ 3 ∷ 9 ∷ 5 ∷ 5 ∷ 7 ∷ 9 ∷ []) ≡ 2

@@ -1,0 +1,5 @@
+pub mod Digits
+pub mod CheckDigits
+pub mod Groups
+pub mod Slips
+pub mod Laws

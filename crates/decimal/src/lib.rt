@@ -1,0 +1,36 @@
+// Slips as digits: groups of twenty decimal digits, nineteen that spell a number and a check digit, and the blocks that they carry.
+ghost use Rattle.decimal.specs.Laws.{Known-check-digits, Notices-swap, Notices-wrong-digit, Round-trip};
+
+pub mod blocks;
+pub mod reading;
+mod text;
+pub mod verhoeff;
+pub mod writing;
+
+// Reading undoes writing, and writing undoes reading.
+pub fn round_trip() -> u8
+    ensures { λ _. ⌜ Round-trip ⌝ }
+{
+    0
+}
+
+// One wrong digit anywhere in a slip is noticed.
+pub fn notices_wrong_digit() -> u8
+    ensures { λ _. ⌜ Notices-wrong-digit ⌝ }
+{
+    0
+}
+
+// Two neighbours keyed in the wrong order are noticed.
+pub fn notices_swap() -> u8
+    ensures { λ _. ⌜ Notices-swap ⌝ }
+{
+    0
+}
+
+// Two check digits that are known from elsewhere.
+pub fn known_check_digits() -> u8
+    ensures { λ _. ⌜ Known-check-digits ⌝ }
+{
+    0
+}
