@@ -1,0 +1,10 @@
+pub mod Packs
+pub mod Turns
+pub mod So
+pub mod Tariffs
+pub mod Fitting
+pub mod Written
+pub mod ReadBack
+pub mod RateLaws
+pub mod Numbered
+pub mod Shapes

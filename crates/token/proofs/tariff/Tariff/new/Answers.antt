@@ -1,0 +1,5 @@
+use Rattle.token.proofs.So.{so}
+use Rattle.token.proofs.tariff.Tariff.new.Needs as need
+
+pub returns : need.returns
+returns c = so _ _ _

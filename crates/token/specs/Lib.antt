@@ -1,0 +1,10 @@
+pub mod Widths
+pub mod Limits
+pub mod Tariffs
+pub mod SubClasses
+pub mod FirstBlocks
+pub mod FurtherBlocks
+pub mod Shapes
+pub mod RateLayout
+pub mod RatePrices
+pub mod Multiplier
