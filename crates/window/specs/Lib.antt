@@ -1,0 +1,5 @@
+pub mod Limits
+pub mod Bits
+pub mod Recovery
+pub mod Marks
+pub mod Replay
