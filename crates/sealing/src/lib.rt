@@ -1,0 +1,7 @@
+// What till and meter do alike to a slip: settings, nonce, message, tag, and the cipher over the blocks.
+pub mod buffer;
+pub mod making;
+pub mod message;
+pub mod opening;
+pub mod settings;
+pub mod tag;
