@@ -1,4 +1,9 @@
 -- Meters made from meters: fittedWith, withCipher, withAuthenticator, inService, withStore. Each names the one part that changes.
+-- And suiteAt, what a meter's settings, cipher and authenticator mean.
+use mathlib.Core.List.{List}
+use Prim.Native.Nat.{ℕ}
+use Rattle.cipher.specs.declared.width.Width.{Width}
+use Rattle.sealing.specs.Suites.{Suite, suite}
 use Rattle.sealing.specs.declared.settings.Settings.{Settings}
 use Rattle.meter.specs.declared.parts.Parts.{Parts}
 use Rattle.meter.specs.declared.fitted.FittedMeter.{FittedMeter}
@@ -32,3 +37,8 @@ withStore m store = record {
     authenticator = m .parts .authenticator;
   };
 }
+
+-- what the settings, the cipher and the authenticator of a meter mean, by the meanings of their kinds
+abbrev pub suiteAt : {S C A : Type 0} → (C → Width → ℕ → ℕ) → (C → Width → ℕ → ℕ) → (A → List ℕ → List ℕ → List ℕ) → Meter S C A → Suite
+suiteAt enciphered deciphered tagged m =
+    suite (m .parts .settings) (enciphered (m .parts .cipher)) (deciphered (m .parts .cipher)) (tagged (m .parts .authenticator))

@@ -6,9 +6,8 @@ ghost use lib.Dec.{ltb};
 ghost use Rattle.std.specs.declared.result.Result.the-variants.{Ok, Err};
 ghost use Rattle.refusal.specs.Checks.{provided};
 ghost use Rattle.refusal.specs.declared.Refusal.the-variants.{NoWrites};
-ghost use Rattle.sealing.specs.Suites.{suite};
 ghost use Rattle.entry.specs.Judging.{judged};
-ghost use Rattle.meter.specs.Meters.{inService, withStore};
+ghost use Rattle.meter.specs.Meters.{inService, withStore, suiteAt};
 ghost use Rattle.meter.specs.Answering.{taking, entryObeyed, spendJudged, spending, spendObeyed};
 use crate::answers::Spent;
 use crate::answers::Taken;
@@ -59,8 +58,8 @@ impl<S, C, A> Meter<S, C, A> {
 impl<S: Store, C: Cipher, A: Authenticator> Meter<S, C, A> {
     // Takes the digits of a slip, or refuses them and stays as it was.
     pub fn enter(&mut self, text: &[u8]) -> Result<Taken, Refusal>
-        ensures answer { λ r. ⌜ r ≡ taking (judged (suite (now (self .entry) .parts .settings) (C·Cipher .enciphered (now (self .entry) .parts .cipher)) (C·Cipher .deciphered (now (self .entry) .parts .cipher)) (A·Authenticator .tagged (now (self .entry) .parts .authenticator))) (S·Store .kept (now (self .entry) .parts .store)) (S·Store .writes (now (self .entry) .parts .store)) (now (text .entry))) ⌝ }
-        ensures after { λ _. ⌜ now (self .exit) ≡ withStore (now (self .entry)) (entryObeyed (S·Store .after) (judged (suite (now (self .entry) .parts .settings) (C·Cipher .enciphered (now (self .entry) .parts .cipher)) (C·Cipher .deciphered (now (self .entry) .parts .cipher)) (A·Authenticator .tagged (now (self .entry) .parts .authenticator))) (S·Store .kept (now (self .entry) .parts .store)) (S·Store .writes (now (self .entry) .parts .store)) (now (text .entry))) (now (self .entry) .parts .store)) ⌝ }
+        ensures answer { λ r. ⌜ r ≡ taking (judged (suiteAt (C·Cipher .enciphered) (C·Cipher .deciphered) (A·Authenticator .tagged) (now (self .entry))) (S·Store .kept (now (self .entry) .parts .store)) (S·Store .writes (now (self .entry) .parts .store)) (now (text .entry))) ⌝ }
+        ensures after { λ _. ⌜ now (self .exit) ≡ withStore (now (self .entry)) (entryObeyed (S·Store .after) (judged (suiteAt (C·Cipher .enciphered) (C·Cipher .deciphered) (A·Authenticator .tagged) (now (self .entry))) (S·Store .kept (now (self .entry) .parts .store)) (S·Store .writes (now (self .entry) .parts .store)) (now (text .entry))) (now (self .entry) .parts .store)) ⌝ }
     {
         let kept = self.parts.store.read();
         let worth = judge(

@@ -1,0 +1,7 @@
+pub mod Splits
+pub mod Pushing
+pub mod Standings
+pub mod Growing
+pub mod Calls
+pub mod Obeying
+pub mod Continuing

@@ -1,0 +1,5 @@
+// Any list of entries and spends at a meter, with the law over all of them.
+pub mod keeping;
+pub mod ledger;
+pub mod lines;
+mod steps;
