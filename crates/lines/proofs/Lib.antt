@@ -1,0 +1,2 @@
+mod Amounts
+mod Reading

@@ -1,0 +1,3 @@
+// The text of a bench: what a line asks of a meter, and the line that answers it.
+pub mod answering;
+pub mod asking;
