@@ -5,3 +5,4 @@ pub mod Growing
 pub mod Calls
 pub mod Obeying
 pub mod Continuing
+pub mod Listing

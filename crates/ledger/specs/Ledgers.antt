@@ -1,6 +1,6 @@
--- Ledgers: lineOf, a line of the journal; journalOf; Lawful.
+-- Ledgers: lineOf, a line of the journal; journalOf; callsOf, the calls of a journal; New-meter-keeps, the law for a new meter; Lawful.
 use mathlib.Core.Path.{_≡_}
-use mathlib.Core.List.{List}
+use mathlib.Core.List.{List, map}
 use Prim.Native.Nat.{ℕ}
 use Rattle.std.specs.Of.Vec.{vec-items}
 use Rattle.record.specs.declared.Record.{Record}
@@ -20,6 +20,14 @@ lineOf call answer writes = record { call = call; answer = answer; writes = writ
 abbrev pub journalOf : {S C A : Type 0} → Ledger S C A → List Line
 journalOf l = vec-items (l .lines)
 
--- a ledger that was opened with a new meter keeps the law, for the record and the writes left that its store means now
+-- the calls of a journal, in their order
+abbrev pub callsOf : List Line → List Call
+callsOf lines = map (λ l. l .call) lines
+
+-- a meter that was new, with this record and so many writes left, keeps the law over a journal up to a record and writes left
+abbrev pub New-meter-keeps : Suite → Record → ℕ → List Line → Record → ℕ → Type 0
+New-meter-keeps s opening writes lines closing left = New-record opening → Law s (opening .credit) writes lines closing left
+
+-- a ledger keeps the law from what it was opened with up to the record and the writes left that its store means now
 abbrev pub Lawful : {S C A : Type 0} → Suite → Ledger S C A → Record → ℕ → Type 0
-Lawful s l closing left = New-record (l .opening) → Law s (l .opening .credit) (l .«opening_writes») (journalOf l) closing left
+Lawful s l closing left = New-meter-keeps s (l .opening) (l .«opening_writes») (journalOf l) closing left

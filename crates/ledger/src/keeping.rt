@@ -2,7 +2,8 @@
 ghost use mathlib.Core.List.{[], _∷_, _++_};
 ghost use mathlib.Core.Path.{_≡_};
 ghost use Rattle.std.specs.Results.{Cases};
-ghost use Rattle.std.specs.Of.Vec.{vec-items};
+ghost use Prim.Native.Nat.{_<_};
+ghost use Rattle.std.specs.Of.Vec.{vec-items, vec-len, vec-cap};
 ghost use Rattle.meter.specs.Meters.{withStore, suiteAt};
 ghost use Rattle.ledger.specs.Ledgers.{journalOf, lineOf, Lawful};
 use crate::ledger::Ledger;
@@ -37,6 +38,25 @@ impl<S: Store, C: Cipher, A: Authenticator> Ledger<S, C, A> {
         }
     }
 
+    // Performs one call and notes it, in memory that is there already.
+    pub(crate) fn note(&mut self, call: Call) -> Answer
+        requires { ⌜ vec-len (now self .lines) < vec-cap (now self .lines) ⌝ }
+        ensures noted { λ answer. ⌜ journalOf (now (self .exit)) ≡ journalOf (now (self .entry)) ++ lineOf call answer (S·Store .writes (now (self .exit) .meter .parts .store)) ∷ [] ⌝ }
+        ensures same { λ _. ⌜ now (self .exit) .meter ≡ withStore (now (self .entry) .meter) (now (self .exit) .meter .parts .store) ⌝ }
+        ensures opening { λ _. ⌜ now (self .exit) .opening ≡ now (self .entry) .opening ⌝ ∗ ⌜ now (self .exit) .«opening_writes» ≡ now (self .entry) .«opening_writes» ⌝ }
+        ensures lawful { λ _. ⌜ (Lawful (suiteAt (C·Cipher .enciphered) (C·Cipher .deciphered) (A·Authenticator .tagged) (now (self .entry) .meter)) (now (self .entry)) (S·Store .kept (now (self .entry) .meter .parts .store)) (S·Store .writes (now (self .entry) .meter .parts .store)) → Lawful (suiteAt (C·Cipher .enciphered) (C·Cipher .deciphered) (A·Authenticator .tagged) (now (self .exit) .meter)) (now (self .exit)) (S·Store .kept (now (self .exit) .meter .parts .store)) (S·Store .writes (now (self .exit) .meter .parts .store))) ⌝ }
+        ensures capacity { λ _. ⌜ vec-cap (now (self .exit) .lines) ≡ vec-cap (now (self .entry) .lines) ⌝ }
+    {
+        let answer = perform_at(&mut self.meter, &call);
+        let writes = self.meter.writes_left();
+        self.lines.push_reserved(Line {
+            call,
+            answer,
+            writes,
+        });
+        answer
+    }
+
     // Performs one call and notes it. Want of memory is found before the call, and leaves meter and journal as they were.
     pub fn perform(&mut self, call: Call) -> Result<Answer, AllocError>
         ensures noted { λ r. ⌜ Cases r (λ answer. journalOf (now (self .exit)) ≡ journalOf (now (self .entry)) ++ lineOf call answer (S·Store .writes (now (self .exit) .meter .parts .store)) ∷ []) (λ _. (journalOf (now (self .exit)) ≡ journalOf (now (self .entry))) × (now (self .exit) .meter ≡ now (self .entry) .meter)) ⌝ }
@@ -45,14 +65,7 @@ impl<S: Store, C: Cipher, A: Authenticator> Ledger<S, C, A> {
         ensures lawful { λ _. ⌜ (Lawful (suiteAt (C·Cipher .enciphered) (C·Cipher .deciphered) (A·Authenticator .tagged) (now (self .entry) .meter)) (now (self .entry)) (S·Store .kept (now (self .entry) .meter .parts .store)) (S·Store .writes (now (self .entry) .meter .parts .store)) → Lawful (suiteAt (C·Cipher .enciphered) (C·Cipher .deciphered) (A·Authenticator .tagged) (now (self .exit) .meter)) (now (self .exit)) (S·Store .kept (now (self .exit) .meter .parts .store)) (S·Store .writes (now (self .exit) .meter .parts .store))) ⌝ }
     {
         self.lines.reserve(1)?;
-        let answer = perform_at(&mut self.meter, &call);
-        let writes = self.meter.writes_left();
-        self.lines.push_reserved(Line {
-            call,
-            answer,
-            writes,
-        });
-        Ok(answer)
+        Ok(self.note(call))
     }
 
     // The credit of the meter, in minor units.

@@ -2,4 +2,5 @@
 pub mod keeping;
 pub mod ledger;
 pub mod lines;
+pub mod running;
 mod steps;

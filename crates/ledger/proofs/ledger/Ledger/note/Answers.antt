@@ -7,8 +7,8 @@ use Rattle.meter.specs.declared.service.Meter.{Meter}
 use Rattle.ledger.specs.Steps.{Performed}
 use Rattle.ledger.specs.Ledgers.{lineOf}
 use Rattle.ledger.proofs.Continuing.{continued}
-use Rattle.ledger.proofs.ledger.Ledger.perform.Given as given
-use Rattle.ledger.proofs.ledger.Ledger.perform.Needs as need
+use Rattle.ledger.proofs.ledger.Ledger.note.Given as given
+use Rattle.ledger.proofs.ledger.Ledger.note.Needs as need
 
 abbrev agreed : (g : given.Over) → Meter (g .S .Denot) (g .C .Denot) (g .A .Denot) → Suite
 agreed g m = suiteAt (g .C·Cipher .enciphered) (g .C·Cipher .deciphered) (g .A·Authenticator .tagged) m
@@ -27,11 +27,12 @@ returns g c =
     let left : c .writes-left-writes .result ≡ writes (last .parts .store) =
     c .writes-left-writes .ensures .value ∙ ap (λ n. writes (n .parts .store)) (sym asked) in
     let noted : vec-items (c .push-reserved .last .self) ≡ vec-items (c .args .self .now .lines) ++ lineOf (c .args .call) x (writes (last .parts .store)) ∷ [] =
-    c .push-reserved .ensures .items ∙ (λ i. c .reserve .ensures .items i ++ lineOf (c .args .call) x (left i) ∷ []) in
+    c .push-reserved .ensures .items ∙ (λ i. vec-items (c .args .self .now .lines) ++ lineOf (c .args .call) x (left i) ∷ []) in
     record {
       noted = noted;
       same = only;
       opening = (refl, refl);
+      capacity = c .push-reserved .ensures .capacity;
       lawful = λ before new.
           continued (agreed g m) (agreed g last) _ _ (vec-items (c .args .self .now .lines)) _ (kept (m .parts .store)) (writes (m .parts .store)) (c .args .call) x _ (writes (last .parts .store))
           (ap (agreed g) only) noted

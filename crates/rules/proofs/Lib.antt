@@ -1,0 +1,3 @@
+pub mod Walking
+pub mod Telling
+pub mod Deciding
