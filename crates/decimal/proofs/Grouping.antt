@@ -29,7 +29,8 @@ use Rattle.decimal.specs.CheckDigits.{front, check-digit, checkDigitAfter, Dig
 use Rattle.decimal.specs.Groups.{before, body, sealedAt, numberAt, lowest, hasBlock, blockAt, grouped, allDigits, allSealed, allBlocks, wordsIn, blocksIn, blocksOf, Sound, checkedGroup}
 use Rattle.decimal.proofs.Spelling.{every-append, every-take, every-drop, getD-values}
 use Rattle.decimal.proofs.Bounded.{up-at, up-fails}
-use Rattle.decimal.proofs.Verdicts.{was-some, was-none, was-ok, was-err, provided-ok}
+use Rattle.decimal.proofs.Verdicts.{was-some, was-none}
+use Rattle.refusal.proofs.Passing.{was-ok, was-err, provided-ok}
 
 -- one group by itself
 every-twenty : (p : ℕ → Bool) (t : List ℕ) → length t ≡ 20 → every p t ≡ (every p (take 19 t) && every p (getD t 19 0 ∷ []))

@@ -1,10 +1,8 @@
--- The ways through an entry, over plain values: refused-at, unwritable, taken-at; whether a write was done: kept-ok, kept-err; and a store
--- after a write: done, undone.
+-- The ways through an entry, over plain values: refused-at, unwritable, taken-at; and a store after a write: done, undone.
 use mathlib.Core.Path.{_≡_, refl, sym, ap, _∙_}
 use mathlib.Core.Bool.{Bool, true, false, cond}
 use mathlib.Core.List.{List}
 use Prim.Native.Nat.{ℕ}
-use native.Mathlib.Omega.{arith}
 use lib.Dec.{ltb}
 use Rattle.std.specs.declared.result.Result.{Result}
 use Rattle.std.specs.declared.result.Result.the-variants.{Ok, Err}
@@ -33,15 +31,6 @@ module _ (s : Suite) (r : Record) (writes : ℕ) (text : List ℕ) where
   pub taken-at : (w : Worth) → Ok w ≡ judgedBy s r text → ltb 0 writes ≡ true → Ok w ≡ judged s r writes text
   unfolding written
   taken-at w p h = ap (λ b. provided b NoWrites (Ok w)) (sym h) ∙ ap written p ∙ staged s r writes text
-
--- what the answer of a write says of the writes left
-pub kept-ok : (b : Bool) (u : Unit {0}) → Ok u ≡ provided b NoWrites (Ok tt) → b ≡ true
-kept-ok true u e = refl
-kept-ok false u e = absurd (let z : _≡_ {A = ℕ} 0 1 = cc in omega arith)
-
-pub kept-err : (b : Bool) (e : Refusal) → Err e ≡ provided {X = Unit {0}} b NoWrites (Ok tt) → (b ≡ false) × (e ≡ NoWrites)
-kept-err true e p = absurd (let z : _≡_ {A = ℕ} 0 1 = cc in omega arith)
-kept-err false e p = (refl, cc)
 
 -- a store that was read, then written to: after a write that is done, and after one that is not
 module _ {S : Type 0} (writes : S → ℕ) (after : S → Record → S) (s t u : S) (r : Record) where

@@ -1,5 +1,5 @@
 -- Laws of checks: how what comes after a check moves inside it (and-then-provided, and-then-found, through), and what follows
--- from what checked rules come to (checked-ok, checked-err).
+-- from what checks come to (was-ok, was-err, provided-ok, checked-ok, checked-err).
 use mathlib.Core.Path.{_≡_, refl, ap, _∙_}
 use mathlib.Core.Bool.{Bool, true, false, cond}
 use mathlib.Core.List.{List, [], _∷_, _++_}
@@ -29,16 +29,25 @@ pub through : {X Y : Type 0} (rules : List Rule) (r : Result X Refusal) (f : X �
 through [] r f = refl
 through (p ∷ ps) r f = and-then-provided (p .kept) (p .refusal) (checked ps r) f ∙ ap (provided (p .kept) (p .refusal)) (through ps r f)
 
--- one rule, kept or broken, before others
-one-ok : {X : Type 0} (b : Bool) (e : Refusal) (r : Result X Refusal) (x : X) → provided b e r ≡ Ok x → (b ≡ true) × (r ≡ Ok x)
-one-ok true e r x p = (refl, p)
-one-ok false e r x p = absurd (let z : _≡_ {A = ℕ} 0 1 = cc in omega arith)
+-- one check, by what it came to
+pub was-ok : {X : Type 0} (b : Bool) (d : Refusal) (x y : X) → Ok y ≡ provided b d (Ok x) → (b ≡ true) × (y ≡ x)
+was-ok true d x y e = (refl, cc)
+was-ok false d x y e = let z : _≡_ {A = ℕ} 0 1 = cc in absurd (omega arith)
+
+pub was-err : {X : Type 0} (b : Bool) (d e : Refusal) (x : X) → Err e ≡ provided b d (Ok x) → (b ≡ false) × (e ≡ d)
+was-err true d e x q = let z : _≡_ {A = ℕ} 0 1 = cc in absurd (omega arith)
+was-err false d e x q = (refl, cc)
+
+-- a check that passed, with more behind it
+pub provided-ok : {X : Type 0} (b : Bool) (e : Refusal) (r : Result X Refusal) (x : X) → provided b e r ≡ Ok x → (b ≡ true) × (r ≡ Ok x)
+provided-ok true e r x p = (refl, p)
+provided-ok false e r x p = absurd (let z : _≡_ {A = ℕ} 0 1 = cc in omega arith)
 
 -- rules that let a value through are all kept, and it is that value
 pub checked-ok : {X : Type 0} (rules : List Rule) (x y : X) → checked rules (Ok x) ≡ Ok y → AllKept rules × (x ≡ y)
 checked-ok [] x y p = (tt, cc)
 checked-ok (q ∷ qs) x y p =
-    let one = one-ok (q .kept) (q .refusal) (checked qs (Ok x)) y p in
+    let one = provided-ok (q .kept) (q .refusal) (checked qs (Ok x)) y p in
     let rest = checked-ok qs x y (one .1) in
     ((one .0, rest .0), rest .1)
 

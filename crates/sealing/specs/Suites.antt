@@ -11,7 +11,7 @@ use Rattle.refusal.specs.Checks.{found}
 use Rattle.refusal.specs.declared.Refusal.{Refusal}
 use Rattle.refusal.specs.declared.Refusal.the-variants as no
 use Rattle.cipher.specs.declared.width.Width.{Width}
-use Rattle.token.specs.Tariffs.{where-so}
+use Rattle.refusal.specs.Making.{where-so}
 use Rattle.sealing.specs.Limits.{allowed}
 use Rattle.sealing.specs.declared.settings.SettingValues.{SettingValues}
 use Rattle.sealing.specs.declared.settings.Settings.{Settings}

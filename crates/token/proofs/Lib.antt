@@ -1,6 +1,5 @@
 pub mod Packs
 pub mod Turns
-pub mod So
 pub mod Tariffs
 pub mod Fitting
 pub mod Written

@@ -26,7 +26,7 @@ use Rattle.token.specs.declared.parts.Parts.{Parts}
 use Rattle.refusal.specs.Checks.{found}
 use Rattle.refusal.specs.declared.Refusal.{Refusal}
 use Rattle.refusal.specs.declared.Refusal.the-variants.{RatePrices}
-use Rattle.token.proofs.So.{holds}
+use Rattle.refusal.proofs.Making.{holds}
 use Rattle.token.proofs.Tariffs.{under-at, limited, long, unused, again, made}
 use Rattle.token.proofs.Fitting.{size-small, fit-first, fit-second, fit-third, first-59, second-59, third-59, part-below}
 

@@ -13,7 +13,7 @@ use Rattle.std.specs.declared.option.Option.the-variants.{Some}
 use Rattle.token.specs.Limits.{under, unusedZero, priced, tariffable}
 use Rattle.token.specs.Tariffs.{tariffOf}
 use Rattle.token.specs.declared.tariff.Tariff.{Tariff}
-use Rattle.token.proofs.So.{so, holds, made-so}
+use Rattle.refusal.proofs.Making.{so, holds, made-so}
 
 pub under-at : (limit : ℕ) (xs : List ℕ) (i : ℕ) → 0 < limit → under limit xs ≡ true → getD xs i 0 < limit
 under-at limit [] i p h = p

@@ -1,17 +1,11 @@
--- Rate prices from their parts, where these keep the limits: where-so, tariffOf.
-use mathlib.Core.Bool.{Bool, true, false}
+-- Rate prices from their parts, where these keep the limits: tariffOf.
+use mathlib.Core.Bool.{Bool}
 use mathlib.Core.List.{List}
 use Prim.Native.Nat.{ℕ}
-use lib.Dec.{T}
 use Rattle.std.specs.declared.option.Option.{Option}
-use Rattle.std.specs.declared.option.Option.the-variants.{Some, None}
+use Rattle.refusal.specs.Making.{where-so}
 use Rattle.token.specs.Limits.{tariffable}
 use Rattle.token.specs.declared.tariff.Tariff.{Tariff}
-
--- a value whose making leans on a test, where the test holds
-abbrev pub where-so : {X : Type 0} (b : Bool) → (T b → X) → Option X
-where-so true make = Some (make tt)
-where-so false make = None
 
 -- the tariff that is complete or not, of this month, multiplier code, count and prices
 abbrev pub tariffOf : Bool → ℕ → ℕ → ℕ → List ℕ → Option Tariff

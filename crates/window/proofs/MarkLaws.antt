@@ -12,7 +12,8 @@ use Rattle.std.proofs.shelf.Tests.{true≢false, le-ltb, cases-lt}
 use Rattle.std.specs.declared.option.Option.the-variants.{Some, None}
 use Rattle.window.specs.Limits.{markable}
 use Rattle.window.specs.Bits.{bit, bitsOf, bitsOf-lt}
-use Rattle.window.specs.Marks.{where-so, windowOf}
+use Rattle.window.specs.Marks.{windowOf}
+use Rattle.refusal.proofs.Making.{so}
 use Rattle.window.specs.declared.state.Window.{Window}
 use Rattle.window.proofs.BitLaws.{bit-mod}
 
@@ -76,15 +77,6 @@ same-window {w} {v} h m = λ i. record {
   marks = m i;
   ok = isProp→PathP (λ j. T (markable (h j) (m j))) (λ j. T-prop (markable (h j) (m j))) (w .ok) (v .ok) i;
 }
-
--- a value that leans on a test, where the test holds and where it does not
-pub so : {X : Type 0} (b : Bool) (make : T b → X) (p : T b) → Some (make p) ≡ where-so b make
-so true make p = refl
-so false make p = absurd p
-
-pub not-so : {X : Type 0} (b : Bool) (make : T b → X) → b ≡ false → None ≡ where-so b make
-not-so true make e = absurd (true≢false e)
-not-so false make e = refl
 
 -- a window is made again of its highest number and its marks
 pub window-back : (w : Window) → windowOf (w .highest) (w .marks) ≡ Some w

@@ -1,10 +1,11 @@
--- What a window tells of the numbers counted: blankWindow, where-so, windowOf, markedIn, marked, stays, withMark, counted, Counted.
+-- What a window tells of the numbers counted: blankWindow, windowOf, markedIn, marked, stays, withMark, counted, Counted.
 use mathlib.Core.Path.{_≡_}
 use mathlib.Core.Bool.{Bool, true, false, _&&_, _||_, cond}
 use Prim.Native.Nat.{ℕ, _+_, _-_, _<_, _≤_, max}
 use lib.Dec.{T, ltb, eqb, lt→ltb}
 use Rattle.std.specs.declared.option.Option.{Option}
 use Rattle.std.specs.declared.option.Option.the-variants.{Some, None}
+use Rattle.refusal.specs.Making.{where-so}
 use Rattle.window.specs.Limits.{room, markable}
 use Rattle.window.specs.Bits.{bit, bitsOf, bitsOf-lt}
 use Rattle.window.specs.Recovery.{inWindow}
@@ -13,11 +14,6 @@ use Rattle.window.specs.declared.state.Window.{Window}
 -- nothing is counted
 abbrev pub blankWindow : Window
 blankWindow = record { highest = 0; marks = 0; ok = tt }
-
--- a value, where the test holds that its making leans on
-abbrev pub where-so : {X : Type 0} (b : Bool) → (T b → X) → Option X
-where-so true make = Some (make tt)
-where-so false make = None
 
 -- the window of this highest number and these marks, where no mark lies outside
 abbrev pub windowOf : ℕ → ℕ → Option Window

@@ -3,7 +3,7 @@ use Rattle.std.specs.declared.result.Result.the-variants.{Err}
 use Rattle.std.proofs.shelf.Results.{err-from-errBy}
 use Rattle.refusal.specs.declared.Refusal.the-variants.{CheckDigit, NoBlock}
 use Rattle.decimal.specs.Groups.{allDigits, allSealed, allBlocks, wordsIn, blocksOf}
-use Rattle.decimal.proofs.Verdicts.{was-ok, was-err}
+use Rattle.refusal.proofs.Passing.{was-ok, was-err}
 use Rattle.decimal.proofs.Grouping.{Passes, read-all, bounded}
 use Rattle.decimal.proofs.reading.read_blocks.Needs as need
 

@@ -8,7 +8,7 @@ use Rattle.refusal.specs.declared.Refusal.the-variants.{NoBlock}
 use Rattle.decimal.specs.Digits.{values, upTo}
 use Rattle.decimal.specs.Groups.{hasBlock, blockAt, allBlocks}
 use Rattle.decimal.proofs.Bounded.{up-more}
-use Rattle.decimal.proofs.Verdicts.{was-ok}
+use Rattle.refusal.proofs.Passing.{was-ok}
 use Rattle.decimal.proofs.Grouping.{one-unblocked, filled, grouped-fits, all-words}
 use Rattle.decimal.proofs.reading.words_of.Needs as need
 

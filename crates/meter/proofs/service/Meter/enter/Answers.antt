@@ -11,7 +11,8 @@ use Rattle.entry.specs.Judging.{judged}
 use Rattle.entry.specs.Stages.{judgedBy}
 use Rattle.meter.specs.Meters.{withStore}
 use Rattle.meter.specs.Answering.{taking, entryObeyed}
-use Rattle.meter.proofs.Ways.{refused-at, unwritable, taken-at, kept-ok, kept-err, done, undone}
+use Rattle.meter.proofs.Ways.{refused-at, unwritable, taken-at, done, undone}
+use Rattle.refusal.proofs.Passing.{was-ok, was-err}
 use Rattle.meter.specs.declared.service.Meter.{Meter}
 use Rattle.meter.proofs.service.Meter.enter.Given as given
 use Rattle.meter.proofs.service.Meter.enter.Needs as need
@@ -47,7 +48,7 @@ returns-in-Break-keep g c =
     let p = err-from-errBy (c .from-residual-in-Break-keep .result) (c .from-residual-in-Break-keep .ensures .1) in
     let j : Ok w ≡ judgedBy s (g .S·Store .kept store) text =
     c .in-Continue-worth .ensures tt ∙ ap (λ r. judgedBy s r text) (c .read-kept .ensures .value) in
-    let none = kept-err (ltb 0 (writes (c .read-kept .last .self))) (c .in-Break-keep .field-0 .0) (c .in-Break-keep .ensures tt .answer) in
+    let none = was-err {X = Unit {0}} (ltb 0 (writes (c .read-kept .last .self))) NoWrites (c .in-Break-keep .field-0 .0) tt (c .in-Break-keep .ensures tt .answer) in
     let h : ltb 0 (writes store) ≡ false = sym (ap (λ x. ltb 0 (writes x)) (c .read-kept .ensures .same)) ∙ none .0 in
     let k = unwritable s (g .S·Store .kept store) (writes store) text w j h in
     let u = undone writes (g .S·Store .after) store (c .read-kept .last .self) (c .keep .last .store) (w .next) (c .read-kept .ensures .same) (c .keep .ensures .after) h in
@@ -66,7 +67,7 @@ returns g c =
     let w = c .in-Continue-worth .worth in
     let j : Ok w ≡ judgedBy s (g .S·Store .kept store) text =
     c .in-Continue-worth .ensures tt ∙ ap (λ r. judgedBy s r text) (c .read-kept .ensures .value) in
-    let some = kept-ok (ltb 0 (writes (c .read-kept .last .self))) tt (c .in-Continue-keep .ensures tt .answer) in
+    let some = was-ok {X = Unit {0}} (ltb 0 (writes (c .read-kept .last .self))) NoWrites tt tt (c .in-Continue-keep .ensures tt .answer) .0 in
     let h : ltb 0 (writes store) ≡ true = sym (ap (λ x. ltb 0 (writes x)) (c .read-kept .ensures .same)) ∙ some in
     let k = taken-at s (g .S·Store .kept store) (writes store) text w j h in
     let u = done writes (g .S·Store .after) store (c .read-kept .last .self) (c .keep .last .store) (w .next) (c .read-kept .ensures .same) (c .keep .ensures .after) h in

@@ -1,7 +1,7 @@
 use mathlib.Core.Path.{ap}
 use Rattle.refusal.specs.Checks.{found}
 use Rattle.refusal.specs.declared.Refusal.the-variants as no
-use Rattle.token.proofs.So.{so}
+use Rattle.refusal.proofs.Making.{so}
 use Rattle.sealing.proofs.settings.Settings.new.Needs as need
 
 pub returns : need.returns

@@ -1,4 +1,4 @@
-use Rattle.token.proofs.So.{so}
+use Rattle.refusal.proofs.Making.{so}
 use Rattle.token.proofs.tariff.Tariff.new.Needs as need
 
 pub returns : need.returns

@@ -1,5 +1,6 @@
 use native.Mathlib.Omega.{arith}
-use Rattle.window.proofs.MarkLaws.{so, not-so, over}
+use Rattle.window.proofs.MarkLaws.{over}
+use Rattle.refusal.proofs.Making.{so, not-so}
 use Rattle.window.proofs.state.Window.new.Needs as need
 
 pub returns-then-marks-mark-count-eq0 : need.returns-then-marks-mark-count-eq0
