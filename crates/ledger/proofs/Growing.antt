@@ -12,7 +12,7 @@ use Rattle.window.proofs.Counting.{marked-blank}
 use Rattle.record.specs.declared.Record.{Record}
 use Rattle.record.specs.Changes.{opening, New-record, tariffWith}
 use Rattle.sealing.specs.Suites.{Suite}
-use Rattle.ledger.specs.Journal.{effect, total, times, oneIf, orZero, highestIn, indexIn, tariffFrom, writesAfter}
+use Rattle.ledger.specs.Journal.{effect, total, times, oneIf, orZero, highestIn, indexIn, tariffAfter, writesAfter}
 use Rattle.ledger.specs.Law.{Right, Law}
 use Rattle.ledger.specs.declared.lines.Line.{Line}
 use Rattle.ledger.proofs.Splits.{at-each-none, at-each-push}

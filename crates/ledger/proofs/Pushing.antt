@@ -8,7 +8,7 @@ use Rattle.std.proofs.shelf.Sums.{sumBy-push}
 use Rattle.token.specs.declared.tariff.Tariff.{Tariff}
 use Rattle.record.specs.Changes.{tariffWith}
 use Rattle.sealing.specs.Suites.{Suite}
-use Rattle.ledger.specs.Journal.{effect, total, orZero, highestIn, tariffFrom, writesAfter}
+use Rattle.ledger.specs.Journal.{effect, total, orZero, highestIn, tariffAfter, writesAfter}
 use Rattle.ledger.specs.declared.lines.Line.{Line}
 
 pub total-push : (f : Line → ℕ) (h : List Line) (x : Line) → total f (h ++ x ∷ []) ≡ total f h + f x
@@ -19,7 +19,7 @@ highest-push s [] x = omega arith
 highest-push s (l ∷ ls) x = let rest = highest-push s ls x in omega (arith, rest)
 
 pub tariff-push : (s : Suite) (old : Option Tariff) (h : List Line) (x : Line) →
-    tariffFrom s old (h ++ x ∷ []) ≡ tariffWith (effect s x .tariff) (tariffFrom s old h)
+    tariffAfter s old (h ++ x ∷ []) ≡ tariffWith (effect s x .tariff) (tariffAfter s old h)
 tariff-push s old [] x = refl
 tariff-push s old (l ∷ ls) x = tariff-push s (tariffWith (effect s l .tariff) old) ls x
 

@@ -1,5 +1,6 @@
--- What a journal says, line by line and in all. A line: textOf, amountNamed, effectOf, effect. A journal: total, times, highestIn,
--- indexIn, tariffIn, writesAfter, standingAfter; AtEach, what holds of each line by those before it.
+-- What a journal says, line by line and in all. A line: textOf, amountNamed, Effect, oneForRates, effectOf, effect. A journal: total,
+-- oneIf, times, orZero, highestIn, indexIn, tariffAfter, writesAfter, creditAfter, standingAfter; AtEach, what holds of each line by
+-- those before it.
 use mathlib.Core.Path.{_≡_}
 use mathlib.Core.Bool.{Bool, cond}
 use mathlib.Core.List.{List, [], _∷_, _++_}
@@ -92,9 +93,9 @@ abbrev pub indexIn : Suite → List Line → ℕ
 indexIn s lines = total (λ l. effect s l .rates) lines
 
 -- the tariff that the last slip with rate prices brought
-abbrev pub tariffFrom : Suite → Option Tariff → List Line → Option Tariff
-tariffFrom s old [] = old
-tariffFrom s old (l ∷ ls) = tariffFrom s (tariffWith (effect s l .tariff) old) ls
+abbrev pub tariffAfter : Suite → Option Tariff → List Line → Option Tariff
+tariffAfter s old [] = old
+tariffAfter s old (l ∷ ls) = tariffAfter s (tariffWith (effect s l .tariff) old) ls
 
 -- the writes left after a journal
 abbrev pub writesAfter : ℕ → List Line → ℕ

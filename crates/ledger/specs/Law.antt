@@ -1,7 +1,7 @@
--- The law of a journal: EntryTaken, SpendPerformed, RightBy, Right, what makes an answer the right one; Law.
+-- The law of a journal: OneWrite, EntryTaken, SpendPerformed, RightBy, Right, what makes an answer the right one; Law.
 use mathlib.Core.Path.{_≡_}
-use mathlib.Core.List.{List}
-use Prim.Native.Nat.{ℕ, _+_, _≤_}
+use mathlib.Core.List.{List, [], _∷_}
+use Prim.Native.Nat.{ℕ, _+_, _-_, _≤_}
 use lib.Dec.{ltb}
 use Rattle.std.specs.Of.Vec.{vec-items}
 use Rattle.std.specs.declared.option.Option.the-variants.{None}
@@ -21,7 +21,7 @@ use Rattle.meter.specs.declared.answers.Spent as answers-spent
 use Rattle.ledger.specs.declared.lines.Call.{Call}
 use Rattle.ledger.specs.declared.lines.Call.the-variants.{Enter, Spend}
 use Rattle.ledger.specs.declared.lines.Line.{Line}
-use Rattle.ledger.specs.Journal.{effect, total, times, highestIn, indexIn, tariffFrom, writesAfter, standingAfter, AtEach}
+use Rattle.ledger.specs.Journal.{effect, total, times, highestIn, indexIn, tariffAfter, writesAfter, standingAfter, AtEach}
 
 -- one write was made: there was one, and the count fell by one or none
 pub record OneWrite (before after : ℕ) : Type 0 where
@@ -30,19 +30,17 @@ pub record OneWrite (before after : ℕ) : Type 0 where
   pub least : before ≤ after + 1
 
 -- an entry was taken rightly, where the meter stood so: every rule was kept; the number is the one of the window that its ten bits
--- stand for; the amount is the one that its digits say; and the credit is higher by it
+-- stand for; the answer tells it, the amount that the digits say, and the credit higher by that
 pub record EntryTaken (s : Suite) (m : Standing) (text : List ℕ) (t : answers-taken.Taken) (writes : ℕ) : Type 0 where
   pub rules : AllKept (entryRules s m text)
   pub number : Stands (m .highest) (slipRead s text .first .tstn) (t .number)
-  pub amount : t .amount ≡ amountRead s text
-  pub credit : t .credit ≡ m .credit + t .amount
+  pub tells : told (Taken t) ≡ record { number = 0; values = t .number ∷ amountRead s text ∷ (m .credit + amountRead s text) ∷ [] }
   pub write : OneWrite (m .writes) writes
 
--- a spend was performed rightly: every rule was kept, the amount is the one named, and the credit is lower by it
+-- a spend was performed rightly: every rule was kept, and the answer tells the amount named and the credit lower by it
 pub record SpendPerformed (m : Standing) (amount : ℕ) (p : answers-spent.Spent) (writes : ℕ) : Type 0 where
   pub rules : AllKept (spendRules m amount)
-  pub named : p .amount ≡ amount
-  pub credit : p .credit + p .amount ≡ m .credit
+  pub tells : told (Spent p) ≡ record { number = 0; values = amount ∷ (m .credit - amount) ∷ [] }
   pub write : OneWrite (m .writes) writes
 
 -- the answer is a right one to the call, where the meter stood so: performed rightly, or refused for the first rule that is
@@ -71,7 +69,7 @@ pub record Law (s : Suite) (opening writes : ℕ) (lines : List Line) (closing :
   pub highest : closing .window .highest ≡ highestIn s lines
   -- function index and tariff are those of the slips with rate prices taken
   pub index : closing .index ≡ indexIn s lines
-  pub tariff : closing .tariff ≡ tariffFrom s None lines
+  pub tariff : closing .tariff ≡ tariffAfter s None lines
   -- the writes left are the ones noted last
   pub store : left ≡ writesAfter writes lines
   -- every answer is right, by the journal before it

@@ -1,4 +1,5 @@
--- What one call does to a meter, by its record and the writes left: Moved, Performed.
+-- What one call does to a meter, by its record and the writes left: nextOf, entryAnswer, spendAnswer, Moved,
+-- Performed.
 use mathlib.Core.Path.{_≡_}
 use Prim.Native.Nat.{ℕ, _+_, _≤_}
 use Rattle.std.specs.Of.Vec.{vec-items}

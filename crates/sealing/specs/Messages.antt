@@ -1,4 +1,5 @@
--- What a slip's tag is computed over, and the tag field: indexFor, nonce, head, message; front and tagField.
+-- What a slip's tag is computed over, and the tag field: indexFor, nonce, head, message; front and tagField; said, what a
+-- message under way holds.
 use mathlib.Core.List.{List, [], _∷_, _++_}
 use Prim.Native.Nat.{ℕ, _+_, _*_}
 use lib.ListN.{getD, take}

@@ -1,5 +1,5 @@
--- The cipher over the blocks of a slip, one way for till and meter: throughFirst, throughFurther, throughLow; and the slip that
--- blocks hold: furtherOf, partsOf, openedAs, opened.
+-- The cipher over the blocks of a slip, one way for till and meter: throughFirst, throughFurther, throughAll, throughLow; and
+-- the slip that blocks hold: present, furtherOf, partsOf, openedAs, opened.
 use mathlib.Core.Bool.{Bool, cond}
 use mathlib.Core.List.{List, [], _∷_, map}
 use Prim.Native.Nat.{ℕ, _+_, _-_, _*_, _/_, _%_, _^_}

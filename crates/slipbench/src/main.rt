@@ -1,4 +1,11 @@
 // A bench meter at the keyboard: each line of the input is an entry or a spend, and is answered at once.
+ghost use mathlib.Core.List.{[]};
+ghost use mathlib.Core.Path.{_≡_};
+ghost use Rattle.std.specs.Results.{Cases};
+ghost use Rattle.store.specs.Plain.{plainOpening};
+ghost use Rattle.ledger.specs.Ledgers.{journalOf};
+ghost use Rattle.lines.specs.Asking.{requestOf};
+ghost use Rattle.slipbench.specs.Bench.{benchSettings, askedBy, Kept};
 use authenticator::byte_sum::ByteSum;
 use authenticator::byte_sum::ByteSumAuthenticator;
 use cipher::clear::Clear;
@@ -11,7 +18,7 @@ use lines::answering::answer_line;
 use lines::asking::Request;
 use lines::asking::read_request;
 use meter::fitted::FittedMeter;
-use refusal::RefusalDebug;
+use refusal::Refusal;
 use sealing::settings::SettingValues;
 use sealing::settings::Settings;
 use std::alloc::AllocError;
@@ -23,22 +30,24 @@ use store::PlainStore;
 use store::PlainStoreStore;
 
 // A ledger over the bench's meter, with a blank store.
-fn open_bench(heap: Global) -> Result<Ledger<PlainStore, Clear, ByteSum>, AnyError> {
-    let values = SettingValues {
+fn open_bench(heap: Global) -> Result<Ledger<PlainStore, Clear, ByteSum>, Refusal>
+    ensures meter { λ r. ⌜ Cases r (λ l. (l .meter .parts .settings ≡ benchSettings) × (l .meter .parts .store ≡ plainOpening 0) × (journalOf l ≡ [])) (λ _. ⊥) ⌝ }
+    ensures kept { λ r. ⌜ Cases r Kept (λ _. ⊥) ⌝ }
+{
+    let settings = Settings::new(SettingValues {
         supplier: 1,
         meter: 2,
         multipliers: [1, 10, 100, 1000],
         ceiling: 3400,
-    };
-    let Ok(settings) = Settings::new(values) else {
-        return Err("the bench's settings are outside their limits".into());
-    };
+    })?;
     let fitted = FittedMeter::fit(settings, PlainStore::blank(), Clear, ByteSum);
     Ok(Ledger::open(fitted.into_service(), heap))
 }
 
 // The call that a line asks for, if it asks for one.
-fn call_of(line: &[u8], heap: Global) -> Result<Option<Call>, AllocError> {
+fn call_of(line: &[u8], heap: Global) -> Result<Option<Call>, AllocError>
+    ensures { λ r. ⌜ Cases r (λ call. askedBy call ≡ requestOf (now (line .entry))) (λ _. Unit {0}) ⌝ }
+{
     match read_request(line) {
         Request::Enter { text } => Ok(Some(Call::Enter(Entry {
             text: text.to_vec(heap)?,
@@ -48,19 +57,29 @@ fn call_of(line: &[u8], heap: Global) -> Result<Option<Call>, AllocError> {
     }
 }
 
+// The reply to one line. The ledger goes on keeping the law.
+fn reply(
+    ledger: &mut Ledger<PlainStore, Clear, ByteSum>,
+    line: &[u8],
+    heap: Global,
+) -> Result<String, AllocError>
+    ensures { λ _. ⌜ (Kept (now (ledger .entry)) → Kept (now (ledger .exit))) ⌝ }
+{
+    let Some(call) = call_of(line, heap)? else {
+        return String::from_str(heap, "?");
+    };
+    let answer = ledger.perform(call)?;
+    answer_line(heap, answer, ledger.credit())
+}
+
 fn serve(rt: &LibcRuntime) -> Result<(), AnyError> {
     let heap = rt.alloc();
-    let mut ledger = open_bench(heap)?;
+    let Ok(mut ledger) = open_bench(heap) else {
+        return Err("the settings of the bench are outside their limits".into());
+    };
     rt.println("slipbench")?;
     for line in BufReader::new(rt.stdin()).split(heap, b'\n') {
-        let line = line?;
-        match call_of(&line, heap)? {
-            Some(call) => {
-                let answer = ledger.perform(call)?;
-                rt.println(answer_line(heap, answer, ledger.credit())?)?;
-            }
-            None => rt.println("?")?,
-        }
+        rt.println(reply(&mut ledger, &line?, heap)?)?;
     }
     Ok(())
 }

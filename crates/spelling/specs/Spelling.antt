@@ -1,5 +1,5 @@
 -- Numbers in bytes, highest byte first: bytesOf, a number in so many bytes; spelled, a row of numbers, each in its own width;
--- Fits, each number has room in its width; the law Spells-apart.
+-- widthsOf, the widths of a row; Fits, each number has room in its width; the law Spells-apart.
 use mathlib.Core.List.{List, [], _∷_, _++_, map}
 use mathlib.Core.Path.{_≡_}
 use Prim.Native.Nat.{ℕ, zero, suc, _/_, _%_, _^_, _<_}

@@ -1,6 +1,6 @@
 -- Rate prices as data parts: firstPartFields, secondPartFields, thirdPartFields, three, parts, fits, written, held, holding.
 -- Data parts as rate prices: lawful, pricesIn, spelled, fromFields, tariffIn.
--- The laws Back and Only, and Judged and ReadBack, which say them of one answer.
+-- Reads, parts that are those of prices; the laws Back and Only, and Judged and ReadBack, which say them of one answer.
 use mathlib.Core.Path.{_≡_}
 use mathlib.Core.Bool.{Bool, true, cond, _&&_}
 use mathlib.Core.List.{List, [], _∷_}

@@ -56,6 +56,6 @@ abbrev pub codedOrRates : List SubClass → ℕ → SubClass
 codedOrRates [] n = Rates
 codedOrRates (k ∷ ks) n = cond (eqb n (code k)) k (codedOrRates ks n)
 
--- the SubClass of a code that is served; any other code reads as Rates
+-- the SubClass of a code that is served; any other code, which is refused before it is read, reads as Rates
 abbrev pub subClassNamed : ℕ → SubClass
 subClassNamed n = codedOrRates subClasses n

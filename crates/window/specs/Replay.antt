@@ -1,4 +1,4 @@
--- No number is counted twice, over any run of numbers: AllCounted, Distinct, No-replay.
+-- No number is counted twice, over any run of numbers: Countable, AllCounted, Distinct, No-replay.
 use mathlib.Core.Path.{_≡_}
 use mathlib.Core.Bool.{true, false}
 use mathlib.Core.List.{List, [], _∷_}

@@ -33,8 +33,8 @@ loop-call-holds g c =
       refl,
       refl,
       λ new.
-      subst (λ ls. Law (agreed g m) (opened .opening .credit) (opened .«opening_writes») ls (g .S·Store .kept (m .parts .store)) (g .S·Store .writes (m .parts .store)))
-      (sym items) (c .open-ledger .ensures .lawful new),
+          subst (λ ls. Law (agreed g m) (opened .opening .credit) (opened .«opening_writes») ls (g .S·Store .kept (m .parts .store)) (g .S·Store .writes (m .parts .store)))
+          (sym items) (c .open-ledger .ensures .lawful new),
     )
 
 pub loop-call-again : need.loop-call-again
@@ -66,9 +66,9 @@ returns g c =
     let kept = g .S·Store .kept in
     let writes = g .S·Store .writes in
     let all : callsOf (journalOf last) ≡ into-iter-items (c .into-iter-call-iterator .result) =
-        calls-all (journalOf last) (into-iter-items it) _ (omega (arith, it .rest .ok .0, c .in-None .ensures tt .steps .0)) (inv .2) in
+    calls-all (journalOf last) (into-iter-items it) _ (omega (arith, it .rest .ok .0, c .in-None .ensures tt .steps .0)) (inv .2) in
     let only : last .meter ≡ withStore (c .args .meter) (last .meter .parts .store) =
-        inv .4 ∙ ap (λ n. withStore n (last .meter .parts .store)) meter in
+    inv .4 ∙ ap (λ n. withStore n (last .meter .parts .store)) meter in
     let opening : last .opening ≡ kept (c .args .meter .parts .store) = inv .5 ∙ opened .opening in
     let at-first : last .«opening_writes» ≡ writes (c .args .meter .parts .store) = inv .6 ∙ opened .writes in
     record {
