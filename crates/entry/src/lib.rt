@@ -13,7 +13,7 @@ use sealing::settings::Settings;
 use weighing::weigh;
 use worth::Worth;
 
-pub mod weighing;
+mod weighing;
 pub mod worth;
 
 // All checks but that of the store, in the order of their numbers.

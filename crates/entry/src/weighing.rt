@@ -82,7 +82,7 @@ fn reckon<A: Authenticator>(
 }
 
 // The checks from the function index on.
-pub fn weigh<A: Authenticator>(
+pub(crate) fn weigh<A: Authenticator>(
     settings: &Settings,
     authenticator: &A,
     kept: Record,

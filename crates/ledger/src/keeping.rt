@@ -57,9 +57,11 @@ impl<S: Store, C: Cipher, A: Authenticator> Ledger<S, C, A> {
         answer
     }
 
-    // Performs one call and notes it. Want of memory is found before the call, and leaves meter and journal as they were.
+    // Performs one call and notes it. Want of memory is found before the call, where the journal has no room left, and leaves meter
+    // and journal as they were.
     pub fn perform(&mut self, call: Call) -> Result<Answer, AllocError>
         ensures noted { λ r. ⌜ Cases r (λ answer. journalOf (now (self .exit)) ≡ journalOf (now (self .entry)) ++ lineOf call answer (S·Store .writes (now (self .exit) .meter .parts .store)) ∷ []) (λ _. (journalOf (now (self .exit)) ≡ journalOf (now (self .entry))) × (now (self .exit) .meter ≡ now (self .entry) .meter)) ⌝ }
+        ensures memory { λ r. ⌜ Cases r (λ _. Unit {0}) (λ _. vec-cap (now (self .entry) .lines) ≡ vec-len (now (self .entry) .lines)) ⌝ }
         ensures same { λ _. ⌜ now (self .exit) .meter ≡ withStore (now (self .entry) .meter) (now (self .exit) .meter .parts .store) ⌝ }
         ensures opening { λ _. ⌜ now (self .exit) .opening ≡ now (self .entry) .opening ⌝ ∗ ⌜ now (self .exit) .«opening_writes» ≡ now (self .entry) .«opening_writes» ⌝ }
         ensures lawful { λ _. ⌜ (Lawful (suiteAt (C·Cipher .enciphered) (C·Cipher .deciphered) (A·Authenticator .tagged) (now (self .entry) .meter)) (now (self .entry)) (S·Store .kept (now (self .entry) .meter .parts .store)) (S·Store .writes (now (self .entry) .meter .parts .store)) → Lawful (suiteAt (C·Cipher .enciphered) (C·Cipher .deciphered) (A·Authenticator .tagged) (now (self .exit) .meter)) (now (self .exit)) (S·Store .kept (now (self .exit) .meter .parts .store)) (S·Store .writes (now (self .exit) .meter .parts .store))) ⌝ }

@@ -1,5 +1,9 @@
--- The bench: benchSettings, its settings; askedBy, what a call asks; Kept, the law of its ledger.
-use mathlib.Core.List.{[], _∷_}
+-- The bench: benchSettings, its settings; askedBy, what a call asks; Kept, the law of its ledger; OneLine,
+-- Replied, what the reply to a line is.
+use mathlib.Core.Path.{_≡_}
+use mathlib.Core.List.{List, [], _∷_, _++_}
+use Prim.Native.Nat.{ℕ}
+use lib.Chars.{codes}
 use Rattle.std.specs.Of.Vec.{vec-items}
 use Rattle.std.specs.declared.option.Option.{Option}
 use Rattle.std.specs.declared.option.Option.the-variants.{Some, None}
@@ -15,6 +19,8 @@ use Rattle.ledger.specs.Ledgers.{Lawful}
 use Rattle.ledger.specs.declared.ledger.Ledger.{Ledger}
 use Rattle.ledger.specs.declared.lines.Call.{Call}
 use Rattle.ledger.specs.declared.lines.Call.the-variants.{Enter, Spend}
+use Rattle.ledger.specs.declared.lines.Line.{Line}
+use Rattle.lines.specs.Answering.{answerText}
 use Rattle.lines.specs.Asking.{Asked, entry, spend, unknown}
 
 -- SupplierID 1, MeterID 2, four multipliers and the ceiling
@@ -33,3 +39,16 @@ BenchLedger = Ledger PlainStore Clear ByteSum
 -- the ledger keeps the law up to the record and the writes left that its store means now
 abbrev pub Kept : BenchLedger → Type 0
 Kept l = Lawful (suiteAt asIs asIs byteSum (l .meter)) l (plainKept (l .meter .parts .store)) (plainWrites (l .meter .parts .store))
+
+-- one line was noted, of a call that asks this, and the reply is the text of its answer
+pub record OneLine (asked : Asked) (before after : List Line) (credit : ℕ) (text : List ℕ) : Type 0 where
+  pub line : Line
+  pub noted : after ≡ before ++ line ∷ []
+  pub asks : askedBy (Some (line .call)) ≡ asked
+  pub says : text ≡ answerText (line .answer) credit
+
+-- the reply to what a line asks: "?" and nothing noted where it asks nothing; else the answer to one call that was noted
+abbrev pub Replied : Asked → List Line → List Line → ℕ → List ℕ → Type 0
+Replied (entry bytes) before after credit text = OneLine (entry bytes) before after credit text
+Replied (spend amount) before after credit text = OneLine (spend amount) before after credit text
+Replied unknown before after credit text = (after ≡ before) × (text ≡ codes "?")

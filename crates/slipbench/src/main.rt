@@ -2,10 +2,11 @@
 ghost use mathlib.Core.List.{[]};
 ghost use mathlib.Core.Path.{_≡_};
 ghost use Rattle.std.specs.Results.{Cases};
-ghost use Rattle.store.specs.Plain.{plainOpening};
+ghost use Rattle.std.specs.Of.String.{string-bytes};
+ghost use Rattle.store.specs.Plain.{plainOpening, plainKept};
 ghost use Rattle.ledger.specs.Ledgers.{journalOf};
 ghost use Rattle.lines.specs.Asking.{requestOf};
-ghost use Rattle.slipbench.specs.Bench.{benchSettings, askedBy, Kept};
+ghost use Rattle.slipbench.specs.Bench.{benchSettings, askedBy, Kept, Replied};
 use authenticator::byte_sum::ByteSum;
 use authenticator::byte_sum::ByteSumAuthenticator;
 use cipher::clear::Clear;
@@ -63,7 +64,8 @@ fn reply(
     line: &[u8],
     heap: Global,
 ) -> Result<String, AllocError>
-    ensures { λ _. ⌜ (Kept (now (ledger .entry)) → Kept (now (ledger .exit))) ⌝ }
+    ensures says { λ r. ⌜ Cases r (λ text. Replied (requestOf (now (line .entry))) (journalOf (now (ledger .entry))) (journalOf (now (ledger .exit))) (plainKept (now (ledger .exit) .meter .parts .store) .credit) (string-bytes text)) (λ _. Unit {0}) ⌝ }
+    ensures kept { λ _. ⌜ (Kept (now (ledger .entry)) → Kept (now (ledger .exit))) ⌝ }
 {
     let Some(call) = call_of(line, heap)? else {
         return String::from_str(heap, "?");

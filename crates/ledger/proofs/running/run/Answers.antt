@@ -74,6 +74,7 @@ returns g c =
     record {
       calls = all ∙ c .into-iter-call-iterator .ensures .becomes .0;
       same = only;
+      memory = tt;
       law =
           subst (λ r. New-meter-keeps (agreed g (c .args .meter)) r (writes (c .args .meter .parts .store)) (journalOf last) (kept (last .meter .parts .store)) (writes (last .meter .parts .store))) opening
           (subst (λ w. New-meter-keeps (agreed g (c .args .meter)) (last .opening) w (journalOf last) (kept (last .meter .parts .store)) (writes (last .meter .parts .store))) at-first
