@@ -4,14 +4,15 @@
 The answers are computed here from the rules of slips, by a meter of this file's own. Nothing is taken from the
 program under test, and nothing of it is run: the files are made once and the program is held to them.
 
-Usage: sample_day.py FOLDER   (writes FOLDER/stdin and FOLDER/stdout)
+Usage: sample_day.py SHORT FULL   (writes stdin and stdout into both folders; the full day goes on until the function
+index is at its end, which takes 65,535 slips with rate prices)
 
 The bench: SupplierID 1, MeterID 2, multipliers 1, 10, 100 and 1000, ceiling 3400, a cipher that leaves every number
 as it is, a seal that is the sum of all bytes of nonce and message, and a store that is blank at first and never full.
-So three refusals cannot occur in the sample: 7 wants 65,535 slips of SubClass 10 taken before, 11 a multiplier that
-is reserved, and 14 a store without writes. Numbers 17 and up belong to settings, tills and stores, which no line
-reaches. The worked transcript comes first and takes number 1, so that the window of a blank meter (1 to 128) is
-tested below by assertions on this file's meter, and in the sample from M = 2 on.
+So two refusals of entries cannot occur: 11 wants a multiplier that is reserved, and 14 a store without writes. Numbers
+17 and up belong to settings, tills and stores, which no line reaches. The worked transcript comes first and takes
+number 1, so that the window of a blank meter (1 to 128) is tested below by assertions on this file's meter, and in the
+sample from M = 4 on.
 """
 
 import sys
@@ -546,17 +547,42 @@ def lines_of_the_day():
     for config, amount in enumerate(MULTIPLIERS):
         enter(slip(1210 + config, 2, config=config), f"A {1210 + config} {2 * amount} {432 + 2 * sum(MULTIPLIERS[: config + 1])}")
     spend(b"002654", "S 2654 0")
-    # The last line has no newline.
-    enter(slip(1300, 7), "A 1300 7 7")
+
+
+def end_of_the_index():
+    """Slips with rate prices until the function index can be raised no more."""
+    while BENCH.index < 65535:
+        number = BENCH.highest + 1
+        enter(slip(number, 0, subclass=10, index=BENCH.index + 1, further=tariff([1])), f"A {number} 0 0")
+    number = BENCH.highest + 1
+    # Refused for the index before anything is asked of number and seal; other SubClasses go on.
+    enter(slip(number, 0, subclass=10, index=65535, further=tariff([1])), "R 7 0")
+    enter(slip(number + 500, 0, subclass=10, index=0, further=tariff([1]), off=1), "R 7 0")
+    enter(slip(number, 5, subclass=8, index=65535), f"A {number} 5 5")
+    enter(slip(number + 1, 6), f"A {number + 1} 6 11")
+    spend(b"11", "S 11 0")
+
+
+def last_line():
+    """A slip on a line without its newline."""
+    number = BENCH.highest + 1
+    enter(slip(number, 7), f"A {number} 7 7")
+
+
+def write(folder, day):
+    with open(f"{folder}/stdin", "wb") as file:
+        file.write(b"\n".join(line for line, _ in day))
+    with open(f"{folder}/stdout", "w", encoding="ascii") as file:
+        file.write("slipbench\n" + "".join(answer + "\n" for _, answer in day))
 
 
 def main():
-    (folder,) = sys.argv[1:]
+    short, full = sys.argv[1:]
     lines_of_the_day()
-    with open(f"{folder}/stdin", "wb") as file:
-        file.write(b"\n".join(line for line, _ in LINES))
-    with open(f"{folder}/stdout", "w", encoding="ascii") as file:
-        file.write("slipbench\n" + "".join(answer + "\n" for _, answer in LINES))
+    write(short, LINES)
+    end_of_the_index()
+    last_line()
+    write(full, LINES)
 
 
 main()

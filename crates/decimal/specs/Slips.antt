@@ -32,7 +32,7 @@ numbersOf (b ∷ bs) = (offset + b) ∷ bs
 unfoldable pub textOf : List ℕ → List ℕ
 textOf bs = spelled (groupsAfter None (numbersOf bs))
 
--- One to four blocks.
+-- One to four blocks, each below 2^61.
 unfoldable pub writable : List ℕ → Bool
 writable bs = leb 1 (length bs) && leb (length bs) 4 && every isBlock bs
 

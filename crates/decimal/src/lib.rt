@@ -21,7 +21,7 @@ pub fn notices_wrong_digit() -> u8
     0
 }
 
-// Two neighbours keyed in the wrong order are noticed.
+// Two different neighbours among the nineteen digits of one group, keyed in the wrong order, are noticed.
 pub fn notices_swap() -> u8
     ensures { λ _. ⌜ Notices-swap ⌝ }
 {

@@ -6,13 +6,13 @@ use Rattle.record.specs.declared.Record.{Record}
 use Rattle.record.specs.Changes.{New-record}
 use Rattle.sealing.specs.Suites.{Suite}
 use Rattle.meter.specs.declared.answers.Answer.{Answer}
-use Rattle.ledger.specs.declared.lines.Call.{Call}
-use Rattle.ledger.specs.declared.lines.Line.{Line}
+use Rattle.ledger.specs.declared.calls.Call.{Call}
+use Rattle.ledger.specs.declared.calls.Line.{Line}
 use Rattle.ledger.specs.Law.{Law}
 use Rattle.ledger.specs.Steps.{Performed}
 use Rattle.ledger.specs.Ledgers.{lineOf}
 use Rattle.ledger.proofs.Growing.{law-none}
-use Rattle.ledger.proofs.Calls.{law-more}
+use Rattle.ledger.proofs.NextCall.{law-more}
 
 pub opened : (s : Suite) (r : Record) (writes : ℕ) (lines : List Line) (closing : Record) (left : ℕ) →
     lines ≡ [] → closing ≡ r → left ≡ writes → New-record r → Law s (r .credit) writes lines closing left

@@ -14,7 +14,7 @@ use Rattle.record.specs.Changes.{opening, New-record, tariffWith}
 use Rattle.sealing.specs.Suites.{Suite}
 use Rattle.ledger.specs.Journal.{effect, total, times, oneIf, orZero, highestIn, indexIn, tariffAfter, writesAfter}
 use Rattle.ledger.specs.Law.{Right, Law}
-use Rattle.ledger.specs.declared.lines.Line.{Line}
+use Rattle.ledger.specs.declared.calls.Line.{Line}
 use Rattle.ledger.proofs.Splits.{at-each-none, at-each-push}
 use Rattle.ledger.proofs.Pushing.{total-push, highest-push, tariff-push, writes-push}
 

@@ -2,7 +2,7 @@ pub mod Splits
 pub mod Pushing
 pub mod Standings
 pub mod Growing
-pub mod Calls
+pub mod NextCall
 pub mod Obeying
 pub mod Continuing
 pub mod Listing

@@ -6,8 +6,8 @@ use native.Mathlib.Omega.{arith}
 use lib.ListN.{length}
 use Rattle.std.proofs.shelf.Lists.{append-nil, map-push, length-append}
 use Rattle.meter.specs.declared.answers.Answer.{Answer}
-use Rattle.ledger.specs.declared.lines.Call.{Call}
-use Rattle.ledger.specs.declared.lines.Line.{Line}
+use Rattle.ledger.specs.declared.calls.Call.{Call}
+use Rattle.ledger.specs.declared.calls.Line.{Line}
 use Rattle.ledger.specs.Ledgers.{lineOf, callsOf}
 
 -- the calls noted and the calls left are all calls, when one more is noted

@@ -21,9 +21,9 @@ use Rattle.meter.specs.Meters.{withStore}
 use Rattle.meter.specs.Answering.{taking, entryObeyed, spendRules, spendJudged, spending, spendObeyed}
 use Rattle.meter.specs.declared.answers.Answer.{Answer}
 use Rattle.meter.specs.declared.service.Meter.{Meter}
-use Rattle.ledger.specs.declared.lines.Call.the-variants.{Enter, Spend}
-use Rattle.ledger.specs.declared.lines.Entry.{Entry}
-use Rattle.ledger.specs.declared.lines.Use.{Use}
+use Rattle.ledger.specs.declared.calls.Call.the-variants.{Enter, Spend}
+use Rattle.ledger.specs.declared.calls.Entry.{Entry}
+use Rattle.ledger.specs.declared.calls.Usage.{Usage}
 use Rattle.ledger.specs.Steps.{nextOf, entryAnswer, spendAnswer, Moved, Performed}
 
 module _ {S : Type 0} (kept : S → Record) (writes : S → ℕ) (after : S → Record → S)
@@ -66,7 +66,7 @@ module _ {S : Type 0} (kept : S → Record) (writes : S → ℕ) (after : S → 
         subst (λ t. Moved (nextOf v) (kept store) (writes store) (kept t) (writes t)) (sym obeyed) (entry-moves s store (vec-items (e .text)) v refl),
       )
 
-  pub spend-performed : (s : Suite) (store new : S) (u : Use) (x : Answer) →
+  pub spend-performed : (s : Suite) (store new : S) (u : Usage) (x : Answer) →
       x ≡ spendAnswer (spending (u .amount) (spendJudged (kept store) (writes store) (u .amount))) →
       new ≡ spendObeyed after (spendJudged (kept store) (writes store) (u .amount)) store →
       Performed s (Spend u) x (kept store) (writes store) (kept new) (writes new)

@@ -9,7 +9,7 @@ use Rattle.token.specs.declared.tariff.Tariff.{Tariff}
 use Rattle.record.specs.Changes.{tariffWith}
 use Rattle.sealing.specs.Suites.{Suite}
 use Rattle.ledger.specs.Journal.{effect, total, orZero, highestIn, tariffAfter, writesAfter}
-use Rattle.ledger.specs.declared.lines.Line.{Line}
+use Rattle.ledger.specs.declared.calls.Line.{Line}
 
 pub total-push : (f : Line → ℕ) (h : List Line) (x : Line) → total f (h ++ x ∷ []) ≡ total f h + f x
 total-push f h x = sumBy-push f h x

@@ -13,7 +13,7 @@ use Rattle.entry.specs.Rules.{Standing, standing, numberIn, entryRules}
 use Rattle.meter.specs.Answering.{spendRules}
 use Rattle.ledger.specs.Journal.{standingAfter}
 use Rattle.ledger.specs.Law.{Law}
-use Rattle.ledger.specs.declared.lines.Line.{Line}
+use Rattle.ledger.specs.declared.calls.Line.{Line}
 
 -- the number that ten bits stand for never lies below the window
 pub number-from : (highest low : ℕ) → lowest highest ≤ numberFor highest low

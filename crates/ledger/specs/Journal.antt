@@ -20,9 +20,9 @@ use Rattle.entry.specs.Reading.{slipRead, amountRead, tariffBrought}
 use Rattle.entry.specs.Rules.{Standing}
 use Rattle.meter.specs.declared.answers.Answer.{Answer}
 use Rattle.meter.specs.declared.answers.Answer.the-variants.{Taken, Spent, Refused}
-use Rattle.ledger.specs.declared.lines.Call.{Call}
-use Rattle.ledger.specs.declared.lines.Call.the-variants.{Enter, Spend}
-use Rattle.ledger.specs.declared.lines.Line.{Line}
+use Rattle.ledger.specs.declared.calls.Call.{Call}
+use Rattle.ledger.specs.declared.calls.Call.the-variants.{Enter, Spend}
+use Rattle.ledger.specs.declared.calls.Line.{Line}
 
 -- the bytes that a call enters
 abbrev pub textOf : Call → List ℕ

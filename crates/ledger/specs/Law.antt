@@ -18,9 +18,9 @@ use Rattle.meter.specs.declared.answers.Answer.{Answer}
 use Rattle.meter.specs.declared.answers.Answer.the-variants.{Taken, Spent, Refused}
 use Rattle.meter.specs.declared.answers.Taken as answers-taken
 use Rattle.meter.specs.declared.answers.Spent as answers-spent
-use Rattle.ledger.specs.declared.lines.Call.{Call}
-use Rattle.ledger.specs.declared.lines.Call.the-variants.{Enter, Spend}
-use Rattle.ledger.specs.declared.lines.Line.{Line}
+use Rattle.ledger.specs.declared.calls.Call.{Call}
+use Rattle.ledger.specs.declared.calls.Call.the-variants.{Enter, Spend}
+use Rattle.ledger.specs.declared.calls.Line.{Line}
 use Rattle.ledger.specs.Journal.{effect, total, times, highestIn, indexIn, tariffAfter, writesAfter, standingAfter, AtEach}
 
 -- one write was made: there was one, and the count fell by one or none

@@ -7,8 +7,8 @@ use Rattle.record.specs.declared.Record.{Record}
 use Rattle.record.specs.Changes.{New-record}
 use Rattle.sealing.specs.Suites.{Suite}
 use Rattle.meter.specs.declared.answers.Answer.{Answer}
-use Rattle.ledger.specs.declared.lines.Call.{Call}
-use Rattle.ledger.specs.declared.lines.Line.{Line}
+use Rattle.ledger.specs.declared.calls.Call.{Call}
+use Rattle.ledger.specs.declared.calls.Line.{Line}
 use Rattle.ledger.specs.declared.ledger.Ledger.{Ledger}
 use Rattle.ledger.specs.Law.{Law}
 

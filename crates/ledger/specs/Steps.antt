@@ -15,8 +15,8 @@ use Rattle.meter.specs.declared.answers.Answer.{Answer}
 use Rattle.meter.specs.declared.answers.Answer.the-variants as answer
 use Rattle.meter.specs.declared.answers.Taken.{Taken}
 use Rattle.meter.specs.declared.answers.Spent.{Spent}
-use Rattle.ledger.specs.declared.lines.Call.{Call}
-use Rattle.ledger.specs.declared.lines.Call.the-variants.{Enter, Spend}
+use Rattle.ledger.specs.declared.calls.Call.{Call}
+use Rattle.ledger.specs.declared.calls.Call.the-variants.{Enter, Spend}
 use Rattle.ledger.specs.Law.{OneWrite}
 
 -- the record of a verdict on an entry

@@ -3,12 +3,13 @@ ghost use mathlib.Core.List.{[], _∷_, _++_};
 ghost use mathlib.Core.Path.{_≡_};
 ghost use Rattle.std.specs.Results.{Cases};
 ghost use Prim.Native.Nat.{_<_};
-ghost use Rattle.std.specs.Of.Vec.{vec-items, vec-len, vec-cap};
+ghost use Rattle.std.specs.Of.Vec.{vec-len, vec-cap};
 ghost use Rattle.meter.specs.Meters.{withStore, suiteAt};
+ghost use Rattle.ledger.specs.Steps.{Performed};
 ghost use Rattle.ledger.specs.Ledgers.{journalOf, lineOf, Lawful};
+use crate::calls::Call;
+use crate::calls::Line;
 use crate::ledger::Ledger;
-use crate::lines::Call;
-use crate::lines::Line;
 use crate::steps::perform_at;
 use authenticator::Authenticator;
 use cipher::Cipher;
@@ -41,6 +42,7 @@ impl<S: Store, C: Cipher, A: Authenticator> Ledger<S, C, A> {
     // Performs one call and notes it, in memory that is there already.
     pub(crate) fn note(&mut self, call: Call) -> Answer
         requires { ⌜ vec-len (now self .lines) < vec-cap (now self .lines) ⌝ }
+        ensures did { λ answer. ⌜ Performed (suiteAt (C·Cipher .enciphered) (C·Cipher .deciphered) (A·Authenticator .tagged) (now (self .entry) .meter)) call answer (S·Store .kept (now (self .entry) .meter .parts .store)) (S·Store .writes (now (self .entry) .meter .parts .store)) (S·Store .kept (now (self .exit) .meter .parts .store)) (S·Store .writes (now (self .exit) .meter .parts .store)) ⌝ }
         ensures noted { λ answer. ⌜ journalOf (now (self .exit)) ≡ journalOf (now (self .entry)) ++ lineOf call answer (S·Store .writes (now (self .exit) .meter .parts .store)) ∷ [] ⌝ }
         ensures same { λ _. ⌜ now (self .exit) .meter ≡ withStore (now (self .entry) .meter) (now (self .exit) .meter .parts .store) ⌝ }
         ensures opening { λ _. ⌜ now (self .exit) .opening ≡ now (self .entry) .opening ⌝ ∗ ⌜ now (self .exit) .«opening_writes» ≡ now (self .entry) .«opening_writes» ⌝ }
@@ -60,6 +62,7 @@ impl<S: Store, C: Cipher, A: Authenticator> Ledger<S, C, A> {
     // Performs one call and notes it. Want of memory is found before the call, where the journal has no room left, and leaves meter
     // and journal as they were.
     pub fn perform(&mut self, call: Call) -> Result<Answer, AllocError>
+        ensures did { λ r. ⌜ Cases r (λ answer. Performed (suiteAt (C·Cipher .enciphered) (C·Cipher .deciphered) (A·Authenticator .tagged) (now (self .entry) .meter)) call answer (S·Store .kept (now (self .entry) .meter .parts .store)) (S·Store .writes (now (self .entry) .meter .parts .store)) (S·Store .kept (now (self .exit) .meter .parts .store)) (S·Store .writes (now (self .exit) .meter .parts .store))) (λ _. Unit {0}) ⌝ }
         ensures noted { λ r. ⌜ Cases r (λ answer. journalOf (now (self .exit)) ≡ journalOf (now (self .entry)) ++ lineOf call answer (S·Store .writes (now (self .exit) .meter .parts .store)) ∷ []) (λ _. (journalOf (now (self .exit)) ≡ journalOf (now (self .entry))) × (now (self .exit) .meter ≡ now (self .entry) .meter)) ⌝ }
         ensures memory { λ r. ⌜ Cases r (λ _. Unit {0}) (λ _. vec-cap (now (self .entry) .lines) ≡ vec-len (now (self .entry) .lines)) ⌝ }
         ensures same { λ _. ⌜ now (self .exit) .meter ≡ withStore (now (self .entry) .meter) (now (self .exit) .meter .parts .store) ⌝ }

@@ -1,5 +1,5 @@
 // A ledger: a meter in service with the journal of all that was asked of it.
-use crate::lines::Line;
+use crate::calls::Line;
 use meter::service::Meter;
 use record::Record;
 

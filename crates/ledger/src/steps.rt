@@ -5,7 +5,7 @@ ghost use Rattle.entry.specs.Judging.{judged};
 ghost use Rattle.meter.specs.Meters.{withStore, suiteAt};
 ghost use Rattle.meter.specs.Answering.{taking, entryObeyed, spendJudged, spending, spendObeyed};
 ghost use Rattle.ledger.specs.Steps.{entryAnswer, spendAnswer, Performed};
-use crate::lines::Call;
+use crate::calls::Call;
 use authenticator::Authenticator;
 use cipher::Cipher;
 use meter::answers::Answer;

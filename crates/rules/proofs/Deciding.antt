@@ -1,4 +1,5 @@
--- Every entry is judged by the rules in words: listed, tells-tag, in-order, sets, takes, verdict, rules-decide. Assumes nothing.
+-- The tests of an entry tell the rules in words, at any standing: listed, tells-tag, in-order, none-before, all-said, refuses,
+-- rules-at-any-standing. So every entry is judged by them: sets, takes, verdict, rules-decide. Assumes nothing.
 use mathlib.Core.Path.{_≡_, refl, subst}
 use mathlib.Core.Logic.{⊎-elim}
 use mathlib.Core.Bool.{false, not}
@@ -12,9 +13,11 @@ use Rattle.std.proofs.shelf.Ways.{decides-eqb, decides-ltb}
 use Rattle.std.specs.declared.option.Option.the-variants.{Some}
 use Rattle.std.specs.declared.result.Result.{Result}
 use Rattle.std.specs.declared.result.Result.the-variants.{Ok, Err}
+use Rattle.refusal.specs.Checks.{AllKept, FirstBroken}
 use Rattle.refusal.specs.Numbers.{numberOf}
 use Rattle.refusal.specs.declared.Refusal.{Refusal}
 use Rattle.refusal.specs.declared.Refusal.the-variants.{Length, NotADigit, CheckDigit, NoBlock, OtherSubClass, WrongBlocks, IndexFull, OutsideWindow, WrongTag, AlreadyCounted, ReservedConfig, RatePrices, AboveCeiling, NoWrites, SpendAmount, SpendAboveCredit, Settings, Sale, TillIndexFull, NoMoreNumbers, ShortMemory, WriteBehindLength}
+use Rattle.refusal.proofs.Passing.{checked-ok, checked-err}
 use Rattle.decimal.specs.Groups.{blocksIn}
 use Rattle.token.specs.declared.subclass.SubClass.{SubClass}
 use Rattle.token.specs.declared.subclass.SubClass.the-variants.{Clear, Enciphered, Rates}
@@ -30,8 +33,8 @@ use Rattle.entry.specs.declared.worth.Worth.{Worth}
 use Rattle.entry.specs.Reading.{slipRead, amountRead, broughtBy}
 use Rattle.entry.specs.Rules.{Standing, standing, numberIn, authentic, entryRules}
 use Rattle.entry.specs.Judging.{worthOf, judged}
-use Rattle.rules.specs.InWords.{Tagged, Says, Sets, Takes, Verdict, Rules-decide}
-use Rattle.rules.proofs.Walking.{Listed, InOrder, Outcome, walk}
+use Rattle.rules.specs.InWords.{Tagged, Says, Sets, Takes, Refuses, Verdict, Rules-decide, Rules-at-any-standing}
+use Rattle.rules.proofs.Walking.{Listed, Below, InOrder, walk-kept, walk-broken}
 use Rattle.rules.proofs.Telling.{tells-length, tells-digits, tells-sealed, tells-blocks, tells-served, tells-fitting, tells-index, tells-reach, tells-of-number, reads-back, tells-priced}
 
 listed : (s : Suite) (m : Standing) (text : List ℕ) (f : Refusal) → Listed (Says s m text) f
@@ -95,6 +98,33 @@ in-order s m text =
     with-rest refl (leb-true sum (s .settings .ceiling), le-leb sum (s .settings .ceiling)) (λ _.
     with-rest refl (decides-ltb 0 (m .writes)) (λ _. refl))))))))))))))
 
+-- no rule has a number below 1
+none-before : (s : Suite) (m : Standing) (text : List ℕ) → Below (Says s m text) 1
+none-before s m text f l = let some = listed s m text f .some in absurd (omega arith)
+
+all-said : (s : Suite) (m : Standing) (text : List ℕ) → AllKept (entryRules s m text) → (e : Refusal) → Says s m text e
+all-said s m text k e =
+    let upto = walk-kept (Says s m text) (listed s m text) 1 (entryRules s m text) (in-order s m text) (none-before s m text) k in
+    ⊎-elim (λ l. upto e l) (λ h. listed s m text e .other (omega arith)) (cases-lt (numberOf e) 15)
+
+refuses : (s : Suite) (m : Standing) (text : List ℕ) (e : Refusal) → FirstBroken (entryRules s m text) e → Refuses s m text e
+refuses s m text e b =
+    let order = subst (InOrder (Says s m text) 1) (b .split) (in-order s m text) in
+    let o = walk-broken (Says s m text) (listed s m text) 1 (b .before) (b .after) e order (none-before s m text) (b .upheld) in
+    record {
+      from = listed s m text e .some;
+      upto =
+          ⊎-elim
+          (λ (l : numberOf e < 15). omega arith)
+          (λ (h : 15 ≤ numberOf e). absurd (o .1 (listed s m text e .other (omega arith))))
+          (cases-lt (numberOf e) 15);
+      earlier = o .0;
+      broken = o .1;
+    }
+
+pub rules-at-any-standing : Rules-at-any-standing
+rules-at-any-standing s m text = (all-said s m text, refuses s m text)
+
 -- what a slip that keeps its rules does to index and tariff
 sets : (k : SubClass) (ps : List ℕ) (r : Record) (n a : ℕ) → (k ≡ Rates → r .index < 65535) → (k ≡ Rates → (t : Tariff) × Reads ps t) →
     Sets k ps r (taken r n a (broughtBy k (tariffIn ps)))
@@ -119,33 +149,18 @@ takes s r writes text kept =
       sets = sets (slip .subclass) (partsOf slip) r (numberIn m slip) (amountRead s text) (kept IndexFull) (kept RatePrices);
     }
 
-verdict : (s : Suite) (r : Record) (writes : ℕ) (text : List ℕ) (v : Result Worth Refusal) →
-    Outcome (Says s (standing r writes) text) (worthOf (s .settings) r (numberIn (standing r writes) (slipRead s text)) (slipRead s text)) v →
-    Verdict s r writes text v
-verdict s r writes text (Ok w) o =
-    let m = standing r writes in
-    let kept : (e : Refusal) → Says s m text e =
-    λ e. ⊎-elim (λ l. o .0 e l) (λ h. listed s m text e .other (omega arith)) (cases-lt (numberOf e) 15) in
-    let P : Worth → Type 0 = λ w. Takes s r writes text w in
-    subst P (o .1) (takes s r writes text kept)
-verdict s r writes text (Err e) o =
-    let m = standing r writes in
-    record {
-      from = listed s m text e .some;
-      upto =
-          ⊎-elim
-          (λ (l : numberOf e < 15). omega arith)
-          (λ (h : 15 ≤ numberOf e). absurd (o .1 (listed s m text e .other (omega arith))))
-          (cases-lt (numberOf e) 15);
-      earlier = o .0;
-      broken = o .1;
-    }
-
-pub rules-decide : Rules-decide
+verdict : (s : Suite) (r : Record) (writes : ℕ) (text : List ℕ) (v : Result Worth Refusal) → judged s r writes text ≡ v → Verdict s r writes text v
 unfolding judged
-rules-decide s r writes text =
+verdict s r writes text (Ok w) p =
     let m = standing r writes in
     let worth = worthOf (s .settings) r (numberIn m (slipRead s text)) (slipRead s text) in
-    verdict s r writes text (judged s r writes text)
-    (walk (Says s m text) (listed s m text) 1 (entryRules s m text) worth (in-order s m text)
-    (λ f l. let some = listed s m text f .some in absurd (omega arith)))
+    let passed = checked-ok (entryRules s m text) worth w p in
+    let P : Worth → Type 0 = λ w. Takes s r writes text w in
+    subst P (passed .1) (takes s r writes text (all-said s m text (passed .0)))
+verdict s r writes text (Err e) p =
+    let m = standing r writes in
+    let worth = worthOf (s .settings) r (numberIn m (slipRead s text)) (slipRead s text) in
+    refuses s m text e (checked-err (entryRules s m text) worth e p)
+
+pub rules-decide : Rules-decide
+rules-decide s r writes text = verdict s r writes text (judged s r writes text) refl

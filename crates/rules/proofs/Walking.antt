@@ -1,18 +1,16 @@
--- Rules in the order of their numbers, walked up to the first that is broken: Below, InOrder, Outcome, walk; what the number of
--- a refusal tells: numbered, Listed. Assumes nothing.
+-- Rules in the order of their numbers: Below, InOrder; walked where all are kept (walk-kept), and up to the first that is broken
+-- (walk-broken); what the number of a refusal tells: numbered, Listed. Assumes nothing.
 use mathlib.Core.Path.{_≡_, refl, sym, ap, subst, _∙_}
 use mathlib.Core.Logic.{⊎-elim}
-use mathlib.Core.Bool.{Bool, true, false}
-use mathlib.Core.List.{List, [], _∷_}
+use mathlib.Core.Bool.{false}
+use mathlib.Core.List.{List, [], _∷_, _++_}
 use Prim.Native.Nat.{ℕ, suc, _-_, _<_, _≤_}
 use native.Mathlib.Omega.{arith}
 use lib.ListN.{getD}
 use Rattle.std.specs.Orderings.{Decides}
 use Rattle.std.proofs.shelf.Tests.{both-ways, cases-lt}
-use Rattle.std.specs.declared.result.Result.{Result}
-use Rattle.std.specs.declared.result.Result.the-variants.{Ok, Err}
 use Rattle.refusal.specs.Numbers.{numberOf}
-use Rattle.refusal.specs.Checks.{Rule, provided, checked}
+use Rattle.refusal.specs.Checks.{Rule, rule, AllKept}
 use Rattle.refusal.specs.declared.Refusal.{Refusal}
 use Rattle.refusal.specs.declared.Refusal.the-variants.{Length, NotADigit, CheckDigit, NoBlock, OtherSubClass, WrongBlocks, IndexFull, OutsideWindow, WrongTag, AlreadyCounted, ReservedConfig, RatePrices, AboveCeiling, NoWrites, SpendAmount, SpendAboveCredit, Settings, Sale, TillIndexFull, NoMoreNumbers, ShortMemory, WriteBehindLength}
 
@@ -42,26 +40,27 @@ abbrev pub InOrder : (Refusal → Type 0) → ℕ → List Rule → Type 0
 InOrder says n [] = n ≡ 15
 InOrder says n (p ∷ ps) = (numberOf (p .refusal) ≡ n) × Decides (p .kept) (says (p .refusal)) × (says (p .refusal) → InOrder says (suc n) ps)
 
--- what checking rules came to, in what they say
-abbrev pub Outcome : {X : Type 0} → (Refusal → Type 0) → X → Result X Refusal → Type 0
-Outcome says x (Ok y) = Below says 15 × (x ≡ y)
-Outcome says x (Err e) = Below says (numberOf e) × (says e → ⊥)
-
--- one rule before others
-one : {X : Type 0} (says : Refusal → Type 0) (kept : Bool) (e : Refusal) (x : X) (rest : Result X Refusal) →
-    Decides kept (says e) → Below says (numberOf e) → (says e → Outcome says x rest) → Outcome says x (provided kept e rest)
-one says true e x rest d b go = go (d .0 refl)
-one says false e x rest d b go = (b, λ h. both-ways false refl (d .1 h))
-
--- what checked rules come to is what they say
-pub walk : {X : Type 0} (says : Refusal → Type 0) → ((f : Refusal) → Listed says f) → (n : ℕ) (rules : List Rule) (x : X) →
-    InOrder says n rules → Below says n → Outcome says x (checked rules (Ok x))
-walk says listed n [] x o b = (subst (Below says) o b, refl)
-walk says listed n (p ∷ ps) x o b =
-    let here = o .0 in
-    one says (p .kept) (p .refusal) x (checked ps (Ok x)) (o .1) (λ f l. b f (omega arith)) (λ h.
-    walk says listed (suc n) ps x (o .2 h) (λ f l.
+-- one rule more is kept
+further : (says : Refusal → Type 0) → ((f : Refusal) → Listed says f) → (n : ℕ) (e : Refusal) → numberOf e ≡ n → Below says n → says e →
+    Below says (suc n)
+further says listed n e here b h f l =
     ⊎-elim
     (λ (lt : numberOf f < n). b f lt)
-    (λ (ge : n ≤ numberOf f). subst says (same says listed (p .refusal) f (omega arith)) h)
-    (cases-lt (numberOf f) n)))
+    (λ (ge : n ≤ numberOf f). subst says (same says listed e f (omega arith)) h)
+    (cases-lt (numberOf f) n)
+
+-- where every test holds, every rule is kept
+pub walk-kept : (says : Refusal → Type 0) → ((f : Refusal) → Listed says f) → (n : ℕ) (rules : List Rule) →
+    InOrder says n rules → Below says n → AllKept rules → Below says 15
+walk-kept says listed n [] o b k = subst (Below says) o b
+walk-kept says listed n (p ∷ ps) o b k =
+    let h = o .1 .0 (k .0) in
+    walk-kept says listed (suc n) ps (o .2 h) (further says listed n (p .refusal) (o .0) b h) (k .1)
+
+-- where a test is the first that fails, its rule is broken, and every rule with a smaller number is kept
+pub walk-broken : (says : Refusal → Type 0) → ((f : Refusal) → Listed says f) → (n : ℕ) (before after : List Rule) (e : Refusal) →
+    InOrder says n (before ++ rule e false ∷ after) → Below says n → AllKept before → Below says (numberOf e) × (says e → ⊥)
+walk-broken says listed n [] after e o b k = let here = o .0 in (λ f l. b f (omega arith), λ h. both-ways false refl (o .1 .1 h))
+walk-broken says listed n (p ∷ ps) after e o b k =
+    let h = o .1 .0 (k .0) in
+    walk-broken says listed (suc n) ps after e (o .2 h) (further says listed n (p .refusal) (o .0) b h) (k .1)

@@ -1,5 +1,6 @@
 -- The rules of an entry in words: Twenties, Closes, Blocked, Stands-here, Tagged, what single rules speak of; Says, what the rule
--- behind each refusal says. What judging an entry means by them: Sets, Takes, Refuses, Verdict; the law Rules-decide.
+-- behind each refusal says. What judging an entry means by them: Sets, Takes, Refuses, Verdict; the laws Rules-decide and
+-- Rules-at-any-standing.
 use mathlib.Core.Path.{_≡_}
 use mathlib.Core.Bool.{false}
 use mathlib.Core.List.{List, _++_}
@@ -10,6 +11,7 @@ use Rattle.std.specs.declared.option.Option.the-variants.{Some}
 use Rattle.std.specs.declared.result.Result.{Result}
 use Rattle.std.specs.declared.result.Result.the-variants.{Ok, Err}
 use Rattle.std.specs.shelf.Lists.{All}
+use Rattle.refusal.specs.Checks.{AllKept, FirstBroken}
 use Rattle.refusal.specs.Numbers.{numberOf}
 use Rattle.refusal.specs.declared.Refusal.{Refusal}
 use Rattle.refusal.specs.declared.Refusal.the-variants.{Length, NotADigit, CheckDigit, NoBlock, OtherSubClass, WrongBlocks, IndexFull, OutsideWindow, WrongTag, AlreadyCounted, ReservedConfig, RatePrices, AboveCeiling, NoWrites, SpendAmount, SpendAboveCredit, Settings, Sale, TillIndexFull, NoMoreNumbers, ShortMemory, WriteBehindLength}
@@ -31,7 +33,7 @@ use Rattle.sealing.specs.Opening.{present, furtherOf, partsOf}
 use Rattle.sealing.specs.declared.opening.Opened.{Opened}
 use Rattle.entry.specs.declared.worth.Worth.{Worth}
 use Rattle.entry.specs.Reading.{slipRead, amountRead, tariffBrought}
-use Rattle.entry.specs.Rules.{Standing, standing}
+use Rattle.entry.specs.Rules.{Standing, standing, entryRules}
 use Rattle.entry.specs.Judging.{judged}
 
 -- one to four groups of twenty
@@ -126,3 +128,11 @@ Verdict s r writes text (Err e) = Refuses s (standing r writes) text e
 -- The law of entries: at any meter any text is taken or refused just as the rules say.
 abbrev pub Rules-decide : Type 0
 Rules-decide = (s : Suite) (r : Record) (writes : ℕ) (text : List ℕ) → Verdict s r writes text (judged s r writes text)
+
+-- The law of standings: at any standing, be it that of a record or not, the tests of the rules tell what the rules say. Where all
+-- tests hold, every rule is kept; where a test is the first that fails, its rule is broken, and every rule with a smaller number
+-- is kept.
+abbrev pub Rules-at-any-standing : Type 0
+Rules-at-any-standing = (s : Suite) (m : Standing) (text : List ℕ) →
+    (AllKept (entryRules s m text) → (e : Refusal) → Says s m text e)
+    × ((e : Refusal) → FirstBroken (entryRules s m text) e → Refuses s m text e)

@@ -8,7 +8,7 @@ use crate::buffer::Message;
 use crate::settings::Settings;
 use token::first::FirstBlock;
 
-// Where the tag is made: a number from the till.
+// The origin that every token names.
 const ORIGIN: u8 = 1;
 
 impl Message {

@@ -1,4 +1,4 @@
--- The bench: benchSettings, its settings; askedBy, what a call asks; Kept, the law of its ledger; OneLine,
+-- The bench: benchSettings, its settings; askedBy, what a call asks; BenchLedger, Kept, the law of its ledger; OneLine,
 -- Replied, what the reply to a line is.
 use mathlib.Core.Path.{_≡_}
 use mathlib.Core.List.{List, [], _∷_, _++_}
@@ -11,15 +11,16 @@ use Rattle.cipher.specs.Clearing.{asIs}
 use Rattle.cipher.specs.declared.clear.Clear.{Clear}
 use Rattle.authenticator.specs.Sum.{byteSum}
 use Rattle.authenticator.specs.declared.byte_sum.ByteSum.{ByteSum}
+use Rattle.record.specs.Changes.{opening as blank}
 use Rattle.sealing.specs.declared.settings.Settings.{Settings}
 use Rattle.store.specs.Plain.{plainKept, plainWrites}
 use Rattle.store.specs.declared.plain.PlainStore.{PlainStore}
 use Rattle.meter.specs.Meters.{suiteAt}
 use Rattle.ledger.specs.Ledgers.{Lawful}
 use Rattle.ledger.specs.declared.ledger.Ledger.{Ledger}
-use Rattle.ledger.specs.declared.lines.Call.{Call}
-use Rattle.ledger.specs.declared.lines.Call.the-variants.{Enter, Spend}
-use Rattle.ledger.specs.declared.lines.Line.{Line}
+use Rattle.ledger.specs.declared.calls.Call.{Call}
+use Rattle.ledger.specs.declared.calls.Call.the-variants.{Enter, Spend}
+use Rattle.ledger.specs.declared.calls.Line.{Line}
 use Rattle.lines.specs.Answering.{answerText}
 use Rattle.lines.specs.Asking.{Asked, entry, spend, unknown}
 
@@ -36,9 +37,13 @@ askedBy (Some (Spend u)) = spend (u .amount)
 abbrev pub BenchLedger : Type 0
 BenchLedger = Ledger PlainStore Clear ByteSum
 
--- the ledger keeps the law up to the record and the writes left that its store means now
-abbrev pub Kept : BenchLedger → Type 0
-Kept l = Lawful (suiteAt asIs asIs byteSum (l .meter)) l (plainKept (l .meter .parts .store)) (plainWrites (l .meter .parts .store))
+-- the bench's ledger: a meter with the bench's settings, opened with a blank record, that keeps the law up to the record and the
+-- writes left that its store means now
+pub record Kept (l : BenchLedger) : Type 0 where
+  pub settings : l .meter .parts .settings ≡ benchSettings
+  pub opening : l .opening ≡ blank 0
+  pub writes : l .«opening_writes» ≡ 4294967295
+  pub lawful : Lawful (suiteAt asIs asIs byteSum (l .meter)) l (plainKept (l .meter .parts .store)) (plainWrites (l .meter .parts .store))
 
 -- one line was noted, of a call that asks this, and the reply is the text of its answer
 pub record OneLine (asked : Asked) (before after : List Line) (credit : ℕ) (text : List ℕ) : Type 0 where

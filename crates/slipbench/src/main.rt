@@ -11,10 +11,10 @@ use authenticator::byte_sum::ByteSum;
 use authenticator::byte_sum::ByteSumAuthenticator;
 use cipher::clear::Clear;
 use cipher::clear::ClearCipher;
+use ledger::calls::Call;
+use ledger::calls::Entry;
+use ledger::calls::Usage;
 use ledger::ledger::Ledger;
-use ledger::lines::Call;
-use ledger::lines::Entry;
-use ledger::lines::Use;
 use lines::answering::answer_line;
 use lines::asking::Request;
 use lines::asking::read_request;
@@ -53,7 +53,7 @@ fn call_of(line: &[u8], heap: Global) -> Result<Option<Call>, AllocError>
         Request::Enter { text } => Ok(Some(Call::Enter(Entry {
             text: text.to_vec(heap)?,
         }))),
-        Request::Spend { amount } => Ok(Some(Call::Spend(Use { amount }))),
+        Request::Spend { amount } => Ok(Some(Call::Spend(Usage { amount }))),
         Request::Unknown => Ok(None),
     }
 }
@@ -81,7 +81,10 @@ fn serve(rt: &LibcRuntime) -> Result<(), AnyError> {
     };
     rt.println("slipbench")?;
     for line in BufReader::new(rt.stdin()).split(heap, b'\n') {
-        rt.println(reply(&mut ledger, &line?, heap)?)?;
+        let Ok(text) = reply(&mut ledger, &line?, heap) else {
+            return Err("no memory is left for the journal".into());
+        };
+        rt.println(text)?;
     }
     Ok(())
 }

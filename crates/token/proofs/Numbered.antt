@@ -2,7 +2,8 @@
 use mathlib.Core.Path.{_≡_, refl, sym, ap, _∙_}
 use mathlib.Core.Bool.{true}
 use mathlib.Core.List.{List, [], _∷_, _++_, map, append-assoc}
-use Prim.Native.Nat.{ℕ, suc, _+_, _-_, _*_, _^_, _<_, _≤_}
+use Prim.Native.Nat.{ℕ, suc, _+_, _-_, _*_, _%_, _^_, _<_, _≤_}
+use native.Mathlib.Nat.{div-one}
 use native.Mathlib.Omega.{arith}
 use lib.Dec.{eqb, leb, ltb}
 use lib.ListN.{length, getD, drop, take, set, length-drop}
@@ -29,9 +30,12 @@ in-sequence (p ∷ ps) l h =
     )
 
 pub carried : Carried
-carried ps h =
-    let c = and-parts (leb (length ps) 3) (under (2 ^ 59) ps) h in
-    in-sequence ps (leb-true (length ps) 3 (c .0)) (c .1)
+carried = record {
+  cut = λ b. ap (λ (n : ℕ). sequenceOf b ∷ n % 2 ^ 59 ∷ []) (sym (div-one b));
+  back = λ ps h.
+  let c = and-parts (leb (length ps) 3) (under (2 ^ 59) ps) h in
+  in-sequence ps (leb-true (length ps) 3 (c .0)) (c .1);
+}
 
 -- what is done, and what is left
 pub record Turned (f : List ℕ → List ℕ) (old new : List ℕ) (i : ℕ) : Type 0 where

@@ -132,4 +132,4 @@ judged bs r e =
 -- the blocks of a slip that is made of its first block and data parts
 pub shape-made : (f : ℕ) (ps : List ℕ) (k : SubClass) → f / 2 ^ 57 % 2 ^ 4 ≡ code k → takes k (suc (length ps)) ≡ true → carriable ps ≡ true → shapeOf (f ∷ numbered ps) ≡ Ok k
 shape-made f ps k e t c =
-    sym (shape-ok (f ∷ numbered ps) k (of-code (f / 2 ^ 57 % 2 ^ 4) k e) (ap (λ (n : ℕ). takes k (suc n)) (length-numbered ps) ∙ t) (carried ps c .0))
+    sym (shape-ok (f ∷ numbered ps) k (of-code (f / 2 ^ 57 % 2 ^ 4) k e) (ap (λ (n : ℕ). takes k (suc n)) (length-numbered ps) ∙ t) (carried .back ps c .0))

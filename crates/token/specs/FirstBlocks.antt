@@ -4,7 +4,7 @@ use mathlib.Core.Bool.{Bool, true, _&&_}
 use mathlib.Core.List.{List, [], _∷_}
 use Prim.Native.Nat.{ℕ, _/_, _%_, _^_, _<_}
 use lib.Dec.{ltb}
-use Rattle.token.specs.Widths.{packed}
+use Rattle.token.specs.Widths.{packed, unpacked}
 use Rattle.token.specs.declared.first.FirstBlock.{FirstBlock}
 
 -- SubClass, low bits of the number, the code of the multiplier, amount, tag
@@ -38,8 +38,10 @@ pub record Small (b : FirstBlock) : Type 0 where
   pub amt : b .amt < 2 ^ 13
   pub tmac : b .tmac < 2 ^ 32
 
--- A block that fits is found again in the number that it packs to; a number of 61 bits gives a block that fits and packs to it.
+-- The fields of a first block are those that its widths cut out. A block that fits is found again in the number that it packs to; a
+-- number of 61 bits gives a block that fits and packs to it.
 pub record FirstBlockRoundTrip : Type 0 where
+  pub cut : (n : ℕ) → firstFields (firstBlockOf n) ≡ unpacked firstWidths n
   pub there : (b : FirstBlock) → firstFits b ≡ true → firstBlockOf (packed firstWidths (firstFields b)) ≡ b
   pub back : (n : ℕ) → n < 2 ^ 61 → packed firstWidths (firstFields (firstBlockOf n)) ≡ n
   pub fits : (n : ℕ) → firstFits (firstBlockOf n) ≡ true

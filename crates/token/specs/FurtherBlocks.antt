@@ -6,7 +6,7 @@ use mathlib.Core.List.{List, [], _∷_, map}
 use Prim.Native.Nat.{ℕ, _/_, _%_, _^_}
 use lib.Dec.{eqb, leb}
 use lib.ListN.{length}
-use Rattle.token.specs.Widths.{packed}
+use Rattle.token.specs.Widths.{packed, unpacked}
 use Rattle.token.specs.Limits.{under}
 
 -- the count of blocks after it, and a data part
@@ -35,6 +35,7 @@ abbrev pub numbered : List ℕ → List ℕ
 numbered [] = []
 numbered (p ∷ ps) = packed furtherWidths (length ps ∷ p ∷ []) ∷ numbered ps
 
--- Parts that were numbered are in sequence, and are found again.
-abbrev pub Carried : Type 0
-Carried = (ps : List ℕ) → carriable ps ≡ true → (sequenced (numbered ps) ≡ true) × (map partOf (numbered ps) ≡ ps)
+-- The fields of a further block are those that its widths cut out. Parts that were numbered are in sequence, and are found again.
+pub record Carried : Type 0 where
+  pub cut : (b : ℕ) → sequenceOf b ∷ partOf b ∷ [] ≡ unpacked furtherWidths b
+  pub back : (ps : List ℕ) → carriable ps ≡ true → (sequenced (numbered ps) ≡ true) × (map partOf (numbered ps) ≡ ps)

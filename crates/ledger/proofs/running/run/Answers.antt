@@ -75,6 +75,7 @@ returns g c =
       calls = all ∙ c .into-iter-call-iterator .ensures .becomes .0;
       same = only;
       memory = tt;
+      opening = (opening, at-first);
       law =
           subst (λ r. New-meter-keeps (agreed g (c .args .meter)) r (writes (c .args .meter .parts .store)) (journalOf last) (kept (last .meter .parts .store)) (writes (last .meter .parts .store))) opening
           (subst (λ w. New-meter-keeps (agreed g (c .args .meter)) (last .opening) w (journalOf last) (kept (last .meter .parts .store)) (writes (last .meter .parts .store))) at-first

@@ -28,7 +28,10 @@ returns g c =
     c .writes-left-writes .ensures .value ∙ ap (λ n. writes (n .parts .store)) (sym asked) in
     let noted : vec-items (c .push-reserved .last .self) ≡ vec-items (c .args .self .now .lines) ++ lineOf (c .args .call) x (writes (last .parts .store)) ∷ [] =
     c .push-reserved .ensures .items ∙ (λ i. vec-items (c .args .self .now .lines) ++ lineOf (c .args .call) x (left i) ∷ []) in
+    let did : Performed (agreed g m) (c .args .call) x (kept (m .parts .store)) (writes (m .parts .store)) (kept (last .parts .store)) (writes (last .parts .store)) =
+        subst (λ n. Performed (agreed g m) (c .args .call) x (kept (m .parts .store)) (writes (m .parts .store)) (kept (n .parts .store)) (writes (n .parts .store))) (sym asked) (c .perform-at-answer .ensures .did) in
     record {
+      did = did;
       noted = noted;
       same = only;
       opening = (refl, refl);
@@ -36,6 +39,6 @@ returns g c =
       lawful = λ before new.
           continued (agreed g m) (agreed g last) _ _ (vec-items (c .args .self .now .lines)) _ (kept (m .parts .store)) (writes (m .parts .store)) (c .args .call) x _ (writes (last .parts .store))
           (ap (agreed g) only) noted
-          (subst (λ n. Performed (agreed g m) (c .args .call) x (kept (m .parts .store)) (writes (m .parts .store)) (kept (n .parts .store)) (writes (n .parts .store))) (sym asked) (c .perform-at-answer .ensures .did))
-          (before new);
+          did
+      (before new);
     }

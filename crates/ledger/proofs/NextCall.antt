@@ -36,11 +36,11 @@ use Rattle.entry.specs.Judging.{worthOf, judged}
 use Rattle.meter.specs.Answering.{taking, spendRules, spendJudged, spending}
 use Rattle.meter.specs.declared.answers.Answer.{Answer}
 use Rattle.meter.specs.declared.answers.Answer.the-variants as answer
-use Rattle.ledger.specs.declared.lines.Call.{Call}
-use Rattle.ledger.specs.declared.lines.Call.the-variants.{Enter, Spend}
-use Rattle.ledger.specs.declared.lines.Entry.{Entry}
-use Rattle.ledger.specs.declared.lines.Use.{Use}
-use Rattle.ledger.specs.declared.lines.Line.{Line}
+use Rattle.ledger.specs.declared.calls.Call.{Call}
+use Rattle.ledger.specs.declared.calls.Call.the-variants.{Enter, Spend}
+use Rattle.ledger.specs.declared.calls.Entry.{Entry}
+use Rattle.ledger.specs.declared.calls.Usage.{Usage}
+use Rattle.ledger.specs.declared.calls.Line.{Line}
 use Rattle.ledger.specs.Journal.{times, oneIf, oneForRates, standingAfter}
 use Rattle.ledger.specs.Law.{OneWrite, Right, Law}
 use Rattle.ledger.specs.Steps.{nextOf, entryAnswer, spendAnswer, Moved, Performed}
@@ -133,7 +133,7 @@ module _ (s : Suite) (start writes : ℕ) (h : List Line) (old : Record) (had le
       }
 
   -- a spend that keeps every rule
-  performed : (u : Use) → AllKept (spendRules m (u .amount)) → OneWrite had left →
+  performed : (u : Usage) → AllKept (spendRules m (u .amount)) → OneWrite had left →
       Step s start writes h old
       (record { call = Spend u; answer = answer.Spent (record { amount = u .amount; credit = old .credit - u .amount }); writes = left })
       (spent old (u .amount)) left
@@ -192,7 +192,7 @@ module _ (s : Suite) (start writes : ℕ) (h : List Line) (old : Record) (had le
       (idle (Enter e) f (subst (λ rules. FirstBroken rules f) (entry-same s m k text same) broken, moved .1 ∙ law .store))
 
   -- a spend, by what it comes to
-  used : (u : Use) (v : Result Record Refusal) (new : Record) → spendJudged old had (u .amount) ≡ v → Moved v old had new left →
+  used : (u : Usage) (v : Result Record Refusal) (new : Record) → spendJudged old had (u .amount) ≡ v → Moved v old had new left →
       Steps-to (Spend u) (spendAnswer (spending (u .amount) v)) new
   unfolding spendJudged
   used u (Ok next) new is moved =

@@ -9,14 +9,14 @@ pub struct Entry {
 
 // Power used, in minor units.
 #[derive(Clone, Copy)]
-pub struct Use {
+pub struct Usage {
     pub amount: u32,
 }
 
 #[derive(Drop)]
 pub enum Call {
     Enter(Entry),
-    Spend(Use),
+    Spend(Usage),
 }
 
 // A call, what was answered, and the writes that the store had left afterwards.
