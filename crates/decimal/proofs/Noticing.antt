@@ -21,7 +21,7 @@ use Rattle.decimal.specs.Laws.{Notices-wrong-digit, Notices-swap, swapped}
 use Rattle.decimal.proofs.Bounded.{up-at, up-fails}
 use Rattle.decimal.proofs.Cancels.{wrong-digit, wrong-order}
 use Rattle.decimal.proofs.Spelling.{every-at, every-set, digit-in, under-values, getD-values}
-use Rattle.decimal.proofs.Grouping.{before-digit, grouped-fits, passed}
+use Rattle.decimal.proofs.Grouping.{before-digit, grouped-fits}
 use Rattle.decimal.proofs.Returning.{last-is}
 
 -- an entry with one broken seal is refused for it
@@ -135,9 +135,8 @@ seal-order ds i j a b u l h ea eb s r =
     (ea ∙ sym (body-at ds i j (omega arith))) (eb ∙ sym (body-at ds i (suc j) h)) (ap (λ t. check-digit (front (before ds i) ++ t)) (sym z) ∙ c)
 
 pub notices-wrong-digit : Notices-wrong-digit
-unfolding allSealed
-notices-wrong-digit t b k byte e h d ne =
-    let p = passed t b e .0 in
+unfolding allDigits allSealed
+notices-wrong-digit t k byte p h d ne =
     let f = grouped-fits t (p .in-groups) in
     let i = k / 20 in
     let j = k % 20 in
@@ -158,9 +157,8 @@ notices-wrong-digit t b k byte e h d ne =
     ne (omega (arith, back, g, r, o)))
 
 pub notices-swap : Notices-swap
-unfolding allSealed
-notices-swap t b k e h near ne =
-    let p = passed t b e .0 in
+unfolding allDigits allSealed
+notices-swap t k p h near ne =
     let f = grouped-fits t (p .in-groups) in
     let i = k / 20 in
     let j = k % 20 in

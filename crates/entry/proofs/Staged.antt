@@ -1,14 +1,13 @@
 -- The checks made in stages come to the rules in their order: brings, reads, opens, reckons, weighs, staged.
-use mathlib.Core.Path.{_≡_, refl, sym, ap, _∙_}
-use mathlib.Core.Bool.{Bool, true, false, not, cond}
-use mathlib.Core.List.{List, [], _∷_}
+use mathlib.Core.Path.{_≡_, refl, ap, _∙_}
+use mathlib.Core.Bool.{not}
+use mathlib.Core.List.{List}
 use Prim.Native.Nat.{ℕ, _+_}
 use lib.Dec.{leb, ltb}
-use Rattle.std.specs.Options.{isSome}
 use Rattle.std.specs.declared.option.Option.{Option}
 use Rattle.std.specs.declared.option.Option.the-variants.{Some, None}
 use Rattle.std.specs.declared.result.Result.{Result}
-use Rattle.std.specs.declared.result.Result.the-variants.{Ok, Err}
+use Rattle.std.specs.declared.result.Result.the-variants.{Ok}
 use Rattle.refusal.specs.Checks.{provided, and-then, found, checked}
 use Rattle.refusal.proofs.Passing.{and-then-found, through}
 use Rattle.refusal.specs.declared.Refusal.{Refusal}
@@ -20,14 +19,13 @@ use Rattle.token.specs.Shapes.{shapeOf}
 use Rattle.token.specs.RatePrices.{tariffIn}
 use Rattle.decimal.specs.Groups.{blocksOf, blocksIn}
 use Rattle.decimal.specs.declared.blocks.Blocks.{Blocks}
-use Rattle.window.specs.Recovery.{numberFor, inReach}
+use Rattle.window.specs.Recovery.{inReach}
 use Rattle.window.specs.Marks.{marked}
 use Rattle.record.specs.declared.Record.{Record}
 use Rattle.record.specs.Changes.{taken}
 use Rattle.sealing.specs.Suites.{Suite, multiplierOf}
 use Rattle.sealing.specs.Opening.{present, partsOf, throughLow, openedAs, opened}
 use Rattle.sealing.specs.declared.opening.Opened.{Opened}
-use Rattle.sealing.specs.declared.settings.Settings.{Settings}
 use Rattle.entry.specs.declared.worth.Worth.{Worth}
 use Rattle.entry.specs.Reading.{subClassRead, slipRead, amountIn, broughtBy, tariffBrought}
 use Rattle.entry.specs.Rules.{standing, raisable, numberIn, authentic, priced, digitRules, shapeRules, numberRules, slipRules}

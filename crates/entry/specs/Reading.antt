@@ -3,7 +3,7 @@
 use mathlib.Core.List.{List}
 use Prim.Native.Nat.{ℕ}
 use Rattle.std.specs.declared.option.Option.{Option}
-use Rattle.std.specs.declared.option.Option.the-variants.{Some, None}
+use Rattle.std.specs.declared.option.Option.the-variants.{None}
 use Rattle.token.specs.declared.subclass.SubClass.{SubClass}
 use Rattle.token.specs.declared.subclass.SubClass.the-variants.{Clear, Enciphered, Rates}
 use Rattle.token.specs.declared.tariff.Tariff.{Tariff}

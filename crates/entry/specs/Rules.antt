@@ -1,6 +1,6 @@
 -- The rules of an entry: Standing, what they ask of the meter; standing, that of a record and writes left; raisable, numberIn,
 -- authentic, priced, what single rules ask; digitRules, shapeRules, numberRules, slipRules, entryRules, the rules in their order.
-use mathlib.Core.Bool.{Bool, true, not, cond}
+use mathlib.Core.Bool.{Bool, true, not}
 use mathlib.Core.List.{List, [], _∷_, _++_}
 use Prim.Native.Nat.{ℕ, _+_}
 use lib.Dec.{leb, ltb, eqb}

@@ -1,9 +1,6 @@
 // A slip in clear, weighed against what the meter keeps.
 ghost use mathlib.Core.Path.{_≡_};
 ghost use Prim.Native.Nat.{ℕ, _<_};
-ghost use lib.ListN.{getD};
-ghost use Rattle.sealing.specs.Suites.{multiplierOf, amountOf};
-ghost use Rattle.entry.specs.Reading.{amountIn};
 ghost use Rattle.entry.specs.Rules.{raisable, authentic};
 ghost use Rattle.entry.specs.Stages.{tariffFrom, reckoned, weighed};
 use crate::worth::Worth;

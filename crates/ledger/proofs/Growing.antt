@@ -1,18 +1,17 @@
 -- The law, one line on: Step, what one line changes; grow; law-none.
 use mathlib.Core.Path.{_≡_, refl, sym, ap, subst, _∙_}
-use mathlib.Core.Bool.{Bool, true, false}
 use mathlib.Core.List.{List, [], _∷_, _++_}
 use Prim.Native.Nat.{ℕ, _+_, _≤_, max}
 use native.Mathlib.Omega.{arith}
 use lib.Dec.{ltb}
 use Rattle.std.specs.declared.option.Option.the-variants.{None}
 use Rattle.window.specs.Recovery.{lowest}
-use Rattle.window.specs.Marks.{marked, blankWindow}
+use Rattle.window.specs.Marks.{marked}
 use Rattle.window.proofs.Counting.{marked-blank}
 use Rattle.record.specs.declared.Record.{Record}
-use Rattle.record.specs.Changes.{opening, New-record, tariffWith}
+use Rattle.record.specs.Changes.{New-record, tariffWith}
 use Rattle.sealing.specs.Suites.{Suite}
-use Rattle.ledger.specs.Journal.{effect, total, times, oneIf, orZero, highestIn, indexIn, tariffAfter, writesAfter}
+use Rattle.ledger.specs.Journal.{effect, times, oneIf, orZero, highestIn}
 use Rattle.ledger.specs.Law.{Right, Law}
 use Rattle.ledger.specs.declared.calls.Line.{Line}
 use Rattle.ledger.proofs.Splits.{at-each-none, at-each-push}

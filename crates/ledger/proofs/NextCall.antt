@@ -2,12 +2,11 @@
 use mathlib.Core.Path.{_≡_, refl, sym, ap, subst, _∙_}
 use mathlib.Core.Bool.{Bool, true, false, not, cond, _||_}
 use mathlib.Core.List.{List, [], _∷_, _++_}
-use mathlib.Core.Logic.{_⊎_, inl, inr, ⊎-elim}
-use Prim.Native.Nat.{ℕ, _+_, _-_, _<_, _≤_, max, min}
+use mathlib.Core.Logic.{_⊎_, ⊎-elim}
+use Prim.Native.Nat.{ℕ, _+_, _-_, _≤_, max}
 use native.Mathlib.Omega.{arith}
-use lib.Dec.{leb, ltb, eqb}
+use lib.Dec.{ltb, eqb}
 use Rattle.std.specs.Of.Vec.{vec-items}
-use Rattle.std.specs.Options.{isSome}
 use Rattle.std.specs.declared.option.Option.{Option}
 use Rattle.std.specs.declared.option.Option.the-variants.{Some, None}
 use Rattle.std.specs.declared.result.Result.{Result}
@@ -21,7 +20,7 @@ use Rattle.token.specs.declared.subclass.SubClass.{SubClass}
 use Rattle.token.specs.declared.subclass.SubClass.the-variants.{Clear, Enciphered, Rates}
 use Rattle.token.specs.declared.tariff.Tariff.{Tariff}
 use Rattle.token.specs.RatePrices.{tariffIn}
-use Rattle.window.specs.Recovery.{lowest, inWindow, numberFor, Stands}
+use Rattle.window.specs.Recovery.{Stands}
 use Rattle.window.specs.Marks.{marked, counted}
 use Rattle.window.proofs.Counting.{highest-counted, marked-counted}
 use Rattle.window.proofs.Recovery.{reached}
@@ -41,7 +40,7 @@ use Rattle.ledger.specs.declared.calls.Call.the-variants.{Enter, Spend}
 use Rattle.ledger.specs.declared.calls.Entry.{Entry}
 use Rattle.ledger.specs.declared.calls.Usage.{Usage}
 use Rattle.ledger.specs.declared.calls.Line.{Line}
-use Rattle.ledger.specs.Journal.{times, oneIf, oneForRates, standingAfter}
+use Rattle.ledger.specs.Journal.{times, oneForRates, standingAfter}
 use Rattle.ledger.specs.Law.{OneWrite, Right, Law}
 use Rattle.ledger.specs.Steps.{nextOf, entryAnswer, spendAnswer, Moved, Performed}
 use Rattle.ledger.proofs.Standings.{number-from, Agree, agree, entry-same, spend-same}

@@ -1,8 +1,8 @@
 -- A meter stands as its journal says: number-from, Agree, agree, entry-same, spend-same.
-use mathlib.Core.Path.{_≡_, refl, sym, ap, _∙_}
+use mathlib.Core.Path.{_≡_, ap, _∙_}
 use mathlib.Core.Bool.{Bool}
 use mathlib.Core.List.{List}
-use Prim.Native.Nat.{ℕ, _+_, _≤_}
+use Prim.Native.Nat.{ℕ, _≤_}
 use native.Mathlib.Omega.{arith}
 use Rattle.refusal.specs.Checks.{Rule}
 use Rattle.window.specs.Recovery.{lowest, numberFor}

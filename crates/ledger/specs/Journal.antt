@@ -2,7 +2,7 @@
 -- oneIf, times, orZero, highestIn, indexIn, tariffAfter, writesAfter, creditAfter, standingAfter; AtEach, what holds of each line by
 -- those before it.
 use mathlib.Core.Path.{_≡_}
-use mathlib.Core.Bool.{Bool, cond}
+use mathlib.Core.Bool.{cond}
 use mathlib.Core.List.{List, [], _∷_, _++_}
 use Prim.Native.Nat.{ℕ, _+_, _-_, max}
 use lib.Dec.{ltb, eqb}
@@ -13,7 +13,6 @@ use Rattle.std.specs.shelf.Lists.{sumBy}
 use Rattle.token.specs.declared.subclass.SubClass.{SubClass}
 use Rattle.token.specs.declared.subclass.SubClass.the-variants.{Clear, Enciphered, Rates}
 use Rattle.token.specs.declared.tariff.Tariff.{Tariff}
-use Rattle.record.specs.declared.Record.{Record}
 use Rattle.record.specs.Changes.{tariffWith}
 use Rattle.sealing.specs.Suites.{Suite}
 use Rattle.entry.specs.Reading.{slipRead, amountRead, tariffBrought}

@@ -1,5 +1,4 @@
 -- Ledgers: lineOf, a line of the journal; journalOf; callsOf, the calls of a journal; New-meter-keeps, the law for a new meter; Lawful.
-use mathlib.Core.Path.{_≡_}
 use mathlib.Core.List.{List, map}
 use Prim.Native.Nat.{ℕ}
 use Rattle.std.specs.Of.Vec.{vec-items}

@@ -1,7 +1,7 @@
 -- What one call does to a meter, by its record and the writes left: nextOf, entryAnswer, spendAnswer, Moved,
 -- Performed.
 use mathlib.Core.Path.{_≡_}
-use Prim.Native.Nat.{ℕ, _+_, _≤_}
+use Prim.Native.Nat.{ℕ}
 use Rattle.std.specs.Of.Vec.{vec-items}
 use Rattle.std.specs.declared.result.Result.{Result}
 use Rattle.std.specs.declared.result.Result.the-variants.{Ok, Err}

@@ -1,6 +1,6 @@
 -- What is answered, and what becomes of the store. Entries: taking, entryObeyed. Spends: spendRules, spendJudged,
 -- spending, spendObeyed.
-use mathlib.Core.Bool.{Bool, _&&_}
+use mathlib.Core.Bool.{_&&_}
 use mathlib.Core.List.{List, [], _∷_}
 use Prim.Native.Nat.{ℕ}
 use lib.Dec.{leb, ltb}

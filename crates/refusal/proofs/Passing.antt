@@ -2,16 +2,15 @@
 -- from what checks come to (was-ok, was-err, provided-ok, checked-ok, checked-err).
 use mathlib.Core.Path.{_≡_, refl, ap, _∙_}
 use mathlib.Core.Bool.{Bool, true, false, cond}
-use mathlib.Core.List.{List, [], _∷_, _++_}
+use mathlib.Core.List.{List, [], _∷_}
 use mathlib.Core.Logic.{_⊎_, inl, inr, ⊎-elim}
 use Prim.Native.Nat.{ℕ}
 use native.Mathlib.Omega.{arith}
-use Rattle.std.specs.declared.option.Option.{Option}
 use Rattle.std.specs.declared.option.Option.the-variants.{Some, None}
 use Rattle.std.specs.declared.result.Result.{Result}
 use Rattle.std.specs.declared.result.Result.the-variants.{Ok, Err}
 use Rattle.refusal.specs.declared.Refusal.{Refusal}
-use Rattle.refusal.specs.Checks.{provided, and-then, found, Rule, rule, checked, AllKept, FirstBroken}
+use Rattle.refusal.specs.Checks.{provided, and-then, found, Rule, checked, AllKept, FirstBroken}
 
 pub and-then-provided : {X Y : Type 0} (b : Bool) (e : Refusal) (r : Result X Refusal) (f : X → Result Y Refusal) →
     and-then (provided b e r) f ≡ provided b e (and-then r f)

@@ -1,11 +1,10 @@
 -- A front of a short list, by a count that is cut down to the list's length or not: take-cut, further-is, parts-are.
 use mathlib.Core.Path.{_≡_, refl, sym, ap, _∙_}
-use mathlib.Core.Logic.{inl, inr, ⊎-elim}
+use mathlib.Core.Logic.{⊎-elim}
 use mathlib.Core.List.{List, [], _∷_, map}
-use Prim.Native.Nat.{ℕ, zero, suc, _-_, _≤_, _<_, _^_, _%_, min}
-use native.Mathlib.Nat.{min-eq-left, min-eq-right}
+use Prim.Native.Nat.{ℕ, _-_, _≤_, _^_, _%_, min}
 use native.Mathlib.Omega.{arith}
-use lib.ListN.{length, getD, take, drop, length-drop}
+use lib.ListN.{length, getD, take, drop}
 use Rattle.std.proofs.shelf.Lists.{take-all, take-map}
 use Rattle.std.proofs.shelf.Tests.{cases-lt}
 use Rattle.token.specs.FurtherBlocks.{partOf}

@@ -1,12 +1,12 @@
 -- The cipher over the blocks of a slip, one way for till and meter: throughFirst, throughFurther, throughAll, throughLow; and
 -- the slip that blocks hold: present, furtherOf, partsOf, openedAs, opened.
-use mathlib.Core.Bool.{Bool, cond}
+use mathlib.Core.Bool.{cond}
 use mathlib.Core.List.{List, [], _∷_, map}
 use Prim.Native.Nat.{ℕ, _+_, _-_, _*_, _/_, _%_, _^_}
 use lib.Dec.{ltb}
 use lib.ListN.{getD, take, drop}
 use Rattle.std.specs.declared.result.Result.{Result}
-use Rattle.std.specs.declared.result.Result.the-variants.{Ok, Err}
+use Rattle.std.specs.declared.result.Result.the-variants.{Ok}
 use Rattle.refusal.specs.Checks.{and-then}
 use Rattle.refusal.specs.declared.Refusal.{Refusal}
 use Rattle.cipher.specs.declared.width.Width.{Width}

@@ -1,12 +1,10 @@
 -- What a till and its meter agree on: settingsOf, the settings that values give; Suite, settings with the meanings of cipher and
 -- authenticator, and suite, one of its parts; multiplierOf and amountOf, what an amount code is worth.
-use mathlib.Core.Bool.{Bool, true, false}
 use mathlib.Core.List.{List}
 use Prim.Native.Nat.{ℕ, _*_}
 use lib.Dec.{T}
 use lib.ListN.{getD}
 use Rattle.std.specs.declared.result.Result.{Result}
-use Rattle.std.specs.declared.result.Result.the-variants.{Ok, Err}
 use Rattle.refusal.specs.Checks.{found}
 use Rattle.refusal.specs.declared.Refusal.{Refusal}
 use Rattle.refusal.specs.declared.Refusal.the-variants as no

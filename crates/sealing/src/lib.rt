@@ -1,7 +1,7 @@
 // What till and meter do alike to a slip: settings, nonce, message, tag, and the cipher over the blocks.
-pub mod buffer;
+mod buffer;
 pub mod making;
-pub mod message;
+mod message;
 pub mod opening;
 pub mod settings;
 pub mod tag;

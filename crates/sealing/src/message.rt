@@ -1,7 +1,7 @@
 // Nonce and message of a slip, byte by byte.
 ghost use mathlib.Core.List.{[], _++_};
 ghost use mathlib.Core.Path.{_≡_};
-ghost use Prim.Native.Nat.{_+_, _*_, _≤_, _<_};
+ghost use Prim.Native.Nat.{_+_, _*_, _≤_};
 ghost use lib.ListN.{length};
 ghost use Rattle.sealing.specs.Messages.{said, nonce, head, message};
 use crate::buffer::Message;

@@ -1,7 +1,7 @@
 // The blocks of a slip, deciphered.
 ghost use mathlib.Core.Path.{_≡_};
-ghost use Prim.Native.Nat.{ℕ, _%_, _^_, _<_, _≤_};
-ghost use lib.ListN.{length, getD};
+ghost use Prim.Native.Nat.{ℕ, _%_, _<_, _≤_};
+ghost use lib.ListN.{length};
 ghost use Rattle.sealing.specs.Opening.{throughFirst, throughFurther, throughAll, throughLow, present, furtherOf, partsOf, opened};
 ghost use Rattle.refusal.specs.Checks.{found};
 ghost use Rattle.refusal.specs.declared.Refusal.the-variants.{RatePrices};

@@ -8,7 +8,7 @@ use lib.Arith.{mod-mul}
 use lib.ListN.{length, take, drop}
 use Rattle.std.specs.shelf.Digits.{number, numberAfter}
 use Rattle.std.proofs.shelf.Lists.{take-at, drop-at}
-use Rattle.spelling.specs.Spelling.{bytesOf, spelled, widthsOf, Fits, Spells-apart}
+use Rattle.spelling.specs.Spelling.{bytesOf, spelled, widthsOf, Spells-apart}
 
 mix : (a d x m : ℕ) → (a * 256 + d) * x + m ≡ a * (256 * x) + (d * x + m)
 mix a d x m = omega (arith, add-mul (a * 256) d x, mul-assoc a 256 x)

@@ -33,8 +33,8 @@ pub carried : Carried
 carried = record {
   cut = λ b. ap (λ (n : ℕ). sequenceOf b ∷ n % 2 ^ 59 ∷ []) (sym (div-one b));
   back = λ ps h.
-  let c = and-parts (leb (length ps) 3) (under (2 ^ 59) ps) h in
-  in-sequence ps (leb-true (length ps) 3 (c .0)) (c .1);
+      let c = and-parts (leb (length ps) 3) (under (2 ^ 59) ps) h in
+      in-sequence ps (leb-true (length ps) 3 (c .0)) (c .1);
 }
 
 -- what is done, and what is left

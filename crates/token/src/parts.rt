@@ -4,8 +4,8 @@ ghost use Rattle.token.specs.Limits.{partable};
 
 #[derive(Clone, Copy)]
 pub struct Parts {
-    pub words: [u64; 3],
+    pub(crate) words: [u64; 3],
     // How many of the words are parts.
-    pub count: usize,
+    pub(crate) count: usize,
     ghost ok: { T (partable count words) },
 }

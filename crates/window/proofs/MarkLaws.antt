@@ -8,8 +8,8 @@ use native.Mathlib.Nat.{mod-eq-of-lt, div-eq-of-lt, mod-one, add-comm, add-mod-r
 use native.Mathlib.Omega.{arith}
 use lib.Dec.{T, T-prop, eqb, ltb}
 use Rattle.std.proofs.shelf.Bits.{mod-pow-add, pow-pos}
-use Rattle.std.proofs.shelf.Tests.{true≢false, le-ltb, cases-lt}
-use Rattle.std.specs.declared.option.Option.the-variants.{Some, None}
+use Rattle.std.proofs.shelf.Tests.{le-ltb, cases-lt}
+use Rattle.std.specs.declared.option.Option.the-variants.{Some}
 use Rattle.window.specs.Limits.{markable}
 use Rattle.window.specs.Bits.{bit, bitsOf, bitsOf-lt}
 use Rattle.window.specs.Marks.{windowOf}

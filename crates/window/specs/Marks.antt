@@ -1,10 +1,9 @@
 -- What a window tells of the numbers counted: blankWindow, windowOf, markedIn, marked, stays, withMark, counted, Counted.
 use mathlib.Core.Path.{_≡_}
-use mathlib.Core.Bool.{Bool, true, false, _&&_, _||_, cond}
+use mathlib.Core.Bool.{Bool, _&&_, _||_, cond}
 use Prim.Native.Nat.{ℕ, _+_, _-_, _<_, _≤_, max}
 use lib.Dec.{T, ltb, eqb, lt→ltb}
 use Rattle.std.specs.declared.option.Option.{Option}
-use Rattle.std.specs.declared.option.Option.the-variants.{Some, None}
 use Rattle.refusal.specs.Making.{where-so}
 use Rattle.window.specs.Limits.{room, markable}
 use Rattle.window.specs.Bits.{bit, bitsOf, bitsOf-lt}

@@ -1,11 +1,10 @@
 use borrow.Author.Needs.{needs}
 use mathlib.Core.Path.{_≡_, refl, sym, ap, subst, _∙_}
-use mathlib.Core.List.{List, [], _∷_, _++_}
+use mathlib.Core.List.{_++_}
 use Prim.Native.Nat.{ℕ, _+_, _≤_}
 use native.Mathlib.Omega.{arith}
 use Rattle.std.specs.Of.Vec.{vec-items, vec-len, vec-cap}
-use Rattle.std.specs.Of.IntoIter.{into-iter-items, into-iter-len}
-use Rattle.record.specs.Changes.{New-record}
+use Rattle.std.specs.Of.IntoIter.{into-iter-items}
 use Rattle.sealing.specs.Suites.{Suite}
 use Rattle.meter.specs.Meters.{withStore, suiteAt}
 use Rattle.meter.specs.declared.service.Meter.{Meter}

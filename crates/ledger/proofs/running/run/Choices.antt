@@ -1,7 +1,7 @@
 use mathlib.Core.Path.{_≡_}
 use mathlib.Core.List.{_++_}
 use Prim.Native.Nat.{_+_, _≤_}
-use Rattle.std.specs.Of.Vec.{vec-items, vec-len, vec-cap}
+use Rattle.std.specs.Of.Vec.{vec-len, vec-cap}
 use Rattle.std.specs.Of.IntoIter.{into-iter-items, into-iter-len}
 use Rattle.meter.specs.Meters.{withStore, suiteAt}
 use Rattle.ledger.specs.Ledgers.{journalOf, callsOf, Lawful}

@@ -1,10 +1,8 @@
-use mathlib.Core.Path.{_≡_, sym, ap, subst}
+use mathlib.Core.Path.{sym, ap, subst}
 use Rattle.sealing.specs.Suites.{Suite, suite}
 use Rattle.meter.specs.declared.service.Meter.{Meter}
 use Rattle.meter.specs.declared.answers.Answer.{Answer}
-use Rattle.record.specs.declared.Record.{Record}
 use Rattle.ledger.specs.declared.calls.Call.{Call}
-use Rattle.ledger.specs.declared.calls.Call.the-variants.{Enter, Spend}
 use Rattle.ledger.specs.Steps.{Performed}
 use Rattle.ledger.proofs.Obeying.{entry-performed, spend-performed, only-store}
 use Rattle.ledger.proofs.steps.perform_at.Given as given

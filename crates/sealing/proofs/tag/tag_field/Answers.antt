@@ -1,10 +1,9 @@
 use mathlib.Core.Path.{_≡_, ap, _∙_}
-use mathlib.Core.List.{List}
-use Prim.Native.Nat.{ℕ, _≤_}
+use Prim.Native.Nat.{ℕ}
 use native.Mathlib.Omega.{arith}
-use lib.ListN.{length, take}
+use lib.ListN.{take}
 use Rattle.std.proofs.shelf.Lists.{take-all}
-use Rattle.sealing.specs.Messages.{front, nonce, message, tagField, indexFor}
+use Rattle.sealing.specs.Messages.{front, message, tagField, indexFor}
 use Rattle.sealing.specs.Opening.{furtherOf}
 use Rattle.sealing.proofs.tag.tag_field.Needs as need
 

@@ -1,5 +1,5 @@
 use mathlib.Core.Path.{_≡_, refl, sym, ap, subst, _∙_}
-use mathlib.Core.List.{List, [], _∷_, _++_}
+use mathlib.Core.List.{[], _∷_, _++_}
 use Rattle.std.specs.Of.Vec.{vec-items}
 use Rattle.sealing.specs.Suites.{Suite}
 use Rattle.meter.specs.Meters.{withStore, suiteAt}
@@ -29,7 +29,7 @@ returns g c =
     let noted : vec-items (c .push-reserved .last .self) ≡ vec-items (c .args .self .now .lines) ++ lineOf (c .args .call) x (writes (last .parts .store)) ∷ [] =
     c .push-reserved .ensures .items ∙ (λ i. vec-items (c .args .self .now .lines) ++ lineOf (c .args .call) x (left i) ∷ []) in
     let did : Performed (agreed g m) (c .args .call) x (kept (m .parts .store)) (writes (m .parts .store)) (kept (last .parts .store)) (writes (last .parts .store)) =
-        subst (λ n. Performed (agreed g m) (c .args .call) x (kept (m .parts .store)) (writes (m .parts .store)) (kept (n .parts .store)) (writes (n .parts .store))) (sym asked) (c .perform-at-answer .ensures .did) in
+    subst (λ n. Performed (agreed g m) (c .args .call) x (kept (m .parts .store)) (writes (m .parts .store)) (kept (n .parts .store)) (writes (n .parts .store))) (sym asked) (c .perform-at-answer .ensures .did) in
     record {
       did = did;
       noted = noted;
@@ -40,5 +40,5 @@ returns g c =
           continued (agreed g m) (agreed g last) _ _ (vec-items (c .args .self .now .lines)) _ (kept (m .parts .store)) (writes (m .parts .store)) (c .args .call) x _ (writes (last .parts .store))
           (ap (agreed g) only) noted
           did
-      (before new);
+          (before new);
     }

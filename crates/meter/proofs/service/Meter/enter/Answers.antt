@@ -1,13 +1,11 @@
-use mathlib.Core.Path.{_≡_, refl, sym, ap, _∙_}
+use mathlib.Core.Path.{_≡_, sym, ap, _∙_}
 use mathlib.Core.Bool.{true, false}
-use mathlib.Core.List.{List}
 use Prim.Native.Nat.{ℕ}
 use lib.Dec.{ltb}
 use Rattle.std.specs.declared.result.Result.the-variants.{Ok, Err}
 use Rattle.std.proofs.shelf.Results.{err-from-errBy}
 use Rattle.refusal.specs.declared.Refusal.the-variants.{NoWrites}
 use Rattle.sealing.specs.Suites.{Suite, suite}
-use Rattle.entry.specs.Judging.{judged}
 use Rattle.entry.specs.Stages.{judgedBy}
 use Rattle.meter.specs.Meters.{withStore}
 use Rattle.meter.specs.Answering.{taking, entryObeyed}
