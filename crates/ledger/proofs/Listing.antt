@@ -1,13 +1,16 @@
--- A list of calls, worked off one by one: calls-more, calls-all, length-more.
-use mathlib.Core.Path.{_≡_, sym, ap, _∙_}
+-- A list of calls, worked off one by one: calls-more, calls-all, length-more, performed-more.
+use mathlib.Core.Path.{_≡_, refl, sym, ap, subst, _∙_}
 use mathlib.Core.List.{List, [], _∷_, _++_, append-assoc}
 use Prim.Native.Nat.{ℕ, _+_}
 use native.Mathlib.Omega.{arith}
 use lib.ListN.{length}
 use Rattle.std.proofs.shelf.Lists.{append-nil, map-push, length-append}
+use Rattle.record.specs.declared.Record.{Record}
+use Rattle.sealing.specs.Suites.{Suite}
 use Rattle.meter.specs.declared.answers.Answer.{Answer}
 use Rattle.ledger.specs.declared.calls.Call.{Call}
 use Rattle.ledger.specs.declared.calls.Line.{Line}
+use Rattle.ledger.specs.Steps.{Performed, AllPerformed}
 use Rattle.ledger.specs.Ledgers.{lineOf, callsOf}
 
 -- the calls noted and the calls left are all calls, when one more is noted
@@ -28,3 +31,11 @@ calls-all journal (c ∷ cs) all none before = absurd (omega (arith, none))
 -- the journal is longer by one
 pub length-more : (journal after : List Line) (l : Line) → after ≡ journal ++ l ∷ [] → length after ≡ length journal + 1
 length-more journal after l noted = ap length noted ∙ length-append journal (l ∷ [])
+
+-- one call more is performed
+pub performed-more : (s : Suite) (r : Record) (writes : ℕ) (h : List Line) (old : Record) (had : ℕ) (c : Call) (x : Answer) (new : Record) (left : ℕ) →
+    AllPerformed s r writes h old had → Performed s c x old had new left → AllPerformed s r writes (h ++ lineOf c x left ∷ []) new left
+performed-more s r writes [] old had c x new left (same, as-many) did =
+    (new, subst (λ q. Performed s c x q writes new left) same (subst (λ k. Performed s c x old k new left) as-many did), (refl, refl))
+performed-more s r writes (l ∷ ls) old had c x new left (next, first, rest) did =
+    (next, first, performed-more s next (l .writes) ls old had c x new left rest did)

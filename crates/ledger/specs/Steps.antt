@@ -1,6 +1,7 @@
 -- What one call does to a meter, by its record and the writes left: nextOf, entryAnswer, spendAnswer, Moved,
--- Performed.
+-- Performed; AllPerformed, the same of a journal.
 use mathlib.Core.Path.{_≡_}
+use mathlib.Core.List.{List, [], _∷_}
 use Prim.Native.Nat.{ℕ}
 use Rattle.std.specs.Of.Vec.{vec-items}
 use Rattle.std.specs.declared.result.Result.{Result}
@@ -17,6 +18,7 @@ use Rattle.meter.specs.declared.answers.Taken.{Taken}
 use Rattle.meter.specs.declared.answers.Spent.{Spent}
 use Rattle.ledger.specs.declared.calls.Call.{Call}
 use Rattle.ledger.specs.declared.calls.Call.the-variants.{Enter, Spend}
+use Rattle.ledger.specs.declared.calls.Line.{Line}
 use Rattle.ledger.specs.Law.{OneWrite}
 
 -- the record of a verdict on an entry
@@ -44,3 +46,9 @@ Performed s (Enter e) x r writes new left =
     (x ≡ entryAnswer (taking (judged s r writes (vec-items (e .text))))) × Moved (nextOf (judged s r writes (vec-items (e .text)))) r writes new left
 Performed s (Spend u) x r writes new left =
     (x ≡ spendAnswer (spending (u .amount) (spendJudged r writes (u .amount)))) × Moved (spendJudged r writes (u .amount)) r writes new left
+
+-- all calls of a journal were performed or refused so, one after the other, from one record and writes left to another
+abbrev pub AllPerformed : Suite → Record → ℕ → List Line → Record → ℕ → Type 0
+AllPerformed s r writes [] new left = (new ≡ r) × (left ≡ writes)
+AllPerformed s r writes (l ∷ ls) new left =
+    (next : Record) × Performed s (l .call) (l .answer) r writes next (l .writes) × AllPerformed s next (l .writes) ls new left

@@ -9,8 +9,9 @@ use Rattle.sealing.specs.Suites.{Suite}
 use Rattle.meter.specs.Meters.{withStore, suiteAt}
 use Rattle.meter.specs.declared.service.Meter.{Meter}
 use Rattle.ledger.specs.Law.{Law}
+use Rattle.ledger.specs.Steps.{Performed, AllPerformed}
 use Rattle.ledger.specs.Ledgers.{callsOf, journalOf, New-meter-keeps}
-use Rattle.ledger.proofs.Listing.{calls-more, calls-all, length-more}
+use Rattle.ledger.proofs.Listing.{calls-more, calls-all, length-more, performed-more}
 use Rattle.ledger.proofs.running.run.Given as given
 use Rattle.ledger.proofs.running.run.Needs as need
 
@@ -34,6 +35,8 @@ loop-call-holds g c =
       λ new.
           subst (λ ls. Law (agreed g m) (opened .opening .credit) (opened .«opening_writes») ls (g .S·Store .kept (m .parts .store)) (g .S·Store .writes (m .parts .store)))
           (sym items) (c .open-ledger .ensures .lawful new),
+      subst (λ ls. AllPerformed (agreed g m) (g .S·Store .kept (m .parts .store)) (g .S·Store .writes (m .parts .store)) ls (g .S·Store .kept (m .parts .store)) (g .S·Store .writes (m .parts .store)))
+          (sym (items ∙ c .open-ledger .ensures .journal)) (refl, refl),
     )
 
 pub loop-call-again : need.loop-call-again
@@ -42,6 +45,8 @@ loop-call-again g c =
     let old = c .loop-call .ledger in
     let new = c .note .last .self in
     let m = c .open-ledger .result .meter in
+    let kept = g .S·Store .kept in
+    let writes = g .S·Store .writes in
     let steps = c .in-Some .ensures tt .steps in
     let noted = c .note .ensures .noted in
     let more = length-more (journalOf old) (journalOf new) _ noted in (
@@ -53,6 +58,10 @@ loop-call-again g c =
       c .note .ensures .opening .0 ∙ inv .5,
       c .note .ensures .opening .1 ∙ inv .6,
       c .note .ensures .lawful (inv .7),
+      subst (λ ls. AllPerformed (agreed g m) (kept (m .parts .store)) (writes (m .parts .store)) ls (kept (new .meter .parts .store)) (writes (new .meter .parts .store)))
+          (sym noted)
+          (performed-more (agreed g m) (kept (m .parts .store)) (writes (m .parts .store)) (journalOf old) (kept (old .meter .parts .store)) (writes (old .meter .parts .store)) (c .in-Some .call) (c .note .result) (kept (new .meter .parts .store)) (writes (new .meter .parts .store)) (inv .8)
+          (subst (λ s. Performed s (c .in-Some .call) (c .note .result) (kept (old .meter .parts .store)) (writes (old .meter .parts .store)) (kept (new .meter .parts .store)) (writes (new .meter .parts .store))) (ap (agreed g) (inv .4)) (c .note .ensures .did))),
     )
 
 pub returns : need.returns
@@ -74,6 +83,8 @@ returns g c =
       calls = all ∙ c .into-iter-call-iterator .ensures .becomes .0;
       same = only;
       memory = tt;
+      performed =
+          subst (λ n. AllPerformed (agreed g n) (kept (n .parts .store)) (writes (n .parts .store)) (journalOf last) (kept (last .meter .parts .store)) (writes (last .meter .parts .store))) meter (inv .8);
       opening = (opening, at-first);
       law =
           subst (λ r. New-meter-keeps (agreed g (c .args .meter)) r (writes (c .args .meter .parts .store)) (journalOf last) (kept (last .meter .parts .store)) (writes (last .meter .parts .store))) opening
