@@ -1,4 +1,4 @@
--- The bench: benchSettings, its settings; askedBy, what a call asks; BenchLedger, Kept, the law of its ledger; OneLine,
+-- The bench: askedBy, what a call asks; BenchLedger, Kept, the law of its ledger; OneLine,
 -- Replied, what the reply to a line is.
 use mathlib.Core.Path.{_≡_}
 use mathlib.Core.List.{List, [], _∷_, _++_}
@@ -12,7 +12,6 @@ use Rattle.cipher.specs.declared.clear.Clear.{Clear}
 use Rattle.authenticator.specs.Sum.{byteSum}
 use Rattle.authenticator.specs.declared.byte_sum.ByteSum.{ByteSum}
 use Rattle.record.specs.Changes.{opening as blank}
-use Rattle.sealing.specs.declared.settings.Settings.{Settings}
 use Rattle.store.specs.Plain.{plainKept, plainWrites}
 use Rattle.store.specs.declared.plain.PlainStore.{PlainStore}
 use Rattle.meter.specs.Meters.{suiteAt}
@@ -21,12 +20,9 @@ use Rattle.ledger.specs.declared.ledger.Ledger.{Ledger}
 use Rattle.ledger.specs.declared.calls.Call.{Call}
 use Rattle.ledger.specs.declared.calls.Call.the-variants.{Enter, Spend}
 use Rattle.ledger.specs.declared.calls.Line.{Line}
+use Rattle.worked.specs.Bench.{benchSettings}
 use Rattle.lines.specs.Answering.{answerText}
 use Rattle.lines.specs.Asking.{Asked, entry, spend, unknown}
-
--- SupplierID 1, MeterID 2, four multipliers and the ceiling
-abbrev pub benchSettings : Settings
-benchSettings = record { supplier = 1; meter = 2; multipliers = 1 ∷ 10 ∷ 100 ∷ 1000 ∷ []; ceiling = 3400; ok = tt }
 
 -- what a call asks, or none
 abbrev pub askedBy : Option Call → Asked

@@ -1,5 +1,5 @@
 -- A meter on the bench, with the clear cipher and the byte sum: benchSettings, benchSuite; blank, its first record; entered, what the
--- digits of an entry come to; leaves, the record after it; Answered and answered, the answer in plain values.
+-- digits of an entry come to; leaves, the record after it.
 use Prim.Native.Nat.{ℕ}
 use Prim.Native.String.{String}
 use mathlib.Core.List.{[], _∷_}
@@ -35,13 +35,3 @@ entered r digits = judged benchSuite r 4294967295 (codes digits)
 abbrev pub leaves : Record → Result Worth Refusal → Record
 leaves r (Ok w) = w .next
 leaves r (Err e) = r
-
--- an entry that is taken: its number, its amount and the credit after it
-pub record Answered : Type 0 where
-  pub number : ℕ
-  pub amount : ℕ
-  pub credit : ℕ
-
-abbrev pub answered : Result Worth Refusal → Result Answered Refusal
-answered (Ok w) = Ok (record { number = w .number; amount = w .amount; credit = w .next .credit })
-answered (Err e) = Err e

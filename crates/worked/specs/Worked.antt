@@ -15,7 +15,8 @@ use Rattle.window.specs.Recovery.{recovered}
 use Rattle.record.specs.declared.Record.{Record}
 use Rattle.sealing.specs.Opening.{present}
 use Rattle.entry.specs.Rules.{digitRules, shapeRules}
-use Rattle.worked.specs.Bench.{blank, entered, leaves, answered}
+use Rattle.meter.specs.Answering.{taking}
+use Rattle.worked.specs.Bench.{blank, entered, leaves}
 
 -- a slip of two groups, with the check digits 1 and 2
 abbrev pub twoGroups : List ℕ
@@ -48,10 +49,10 @@ pub record Worked-slips : Type 0 where
   -- the last number of all is counted: the window ends there
   pub last-window : map (standsFor 4294967295) (1023 ∷ 0 ∷ []) ≡ Ok 4294967295 ∷ Err OutsideWindow ∷ []
   -- the bench's first entry is taken: number 1, and 500 of credit
-  pub first-entry : answered (entered blank "73942998757583096280") ≡ Ok (record { number = 1; amount = 500; credit = 500 })
+  pub first-entry : taking (entered blank "73942998757583096280") ≡ Ok (record { number = 1; amount = 500; credit = 500 })
   -- keyed in again, it is refused
-  pub second-entry : answered (entered afterFirst "73942998757583096280") ≡ Err AlreadyCounted
+  pub second-entry : taking (entered afterFirst "73942998757583096280") ≡ Err AlreadyCounted
   -- a slip with another amount and the tag of the first
-  pub third-entry : answered (entered afterFirst "73942998800532769246") ≡ Err WrongTag
+  pub third-entry : taking (entered afterFirst "73942998800532769246") ≡ Err WrongTag
   -- a good slip of 3000, which with the credit of 500 is above the ceiling of 3400
-  pub fourth-entry : answered (entered afterFirst "73944749386252943917") ≡ Err AboveCeiling
+  pub fourth-entry : taking (entered afterFirst "73944749386252943917") ≡ Err AboveCeiling
