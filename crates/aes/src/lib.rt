@@ -1,4 +1,6 @@
 // AES-128 of FIPS 197, on 32-bit columns with constant tables.
+#![tactic(auto)]
+
 ghost use Rattle.std.specs.Prelude.{◌≡◌};
 ghost use Rattle.aes.specs.Aes.{aes};
 ghost use Rattle.aes.specs.Keyed.{aes_for, key_of};

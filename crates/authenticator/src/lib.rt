@@ -1,4 +1,6 @@
 // Authenticators: a tag of sixteen bytes for a nonce of twelve bytes and a message of up to 64.
+#![tactic(auto)]
+
 ghost use Rattle.std.specs.Prelude.{◌≡◌, ℕ, List, length, take};
 ghost use Rattle.std.specs.Int.Digits.{AllBelowBase};
 

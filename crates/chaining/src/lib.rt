@@ -1,4 +1,6 @@
 // Cipher blocks of sixteen bytes as numbers of 128 bits, highest byte first: a row of bytes as blocks, and a chain over them.
+#![tactic(auto)]
+
 ghost use Rattle.std.specs.Prelude.{◌≡◌, ℕ, slice_index};
 ghost use Rattle.aes.specs.Keyed.{key_of};
 ghost use Rattle.chaining.specs.Blocks.{aes_block, block_of, blocks_of, chained};

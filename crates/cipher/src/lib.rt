@@ -1,4 +1,6 @@
 // Ciphers on the enciphered parts of blocks: numbers of 57 and of 59 bits.
+#![tactic(auto)]
+
 ghost use Rattle.std.specs.Prelude.{List, ◌≡◌, ℕ, ◌%◌, ◌^◌, ◌<◌};
 ghost use Rattle.cipher.specs.Widths.{bits};
 ghost use Rattle.cipher.specs.declared.width.Width.{Width};

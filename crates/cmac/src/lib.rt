@@ -1,4 +1,6 @@
 // CMAC of SP 800-38B over AES-128.
+#![tactic(auto)]
+
 ghost use Rattle.std.specs.Prelude.{◌≡◌, ◌+◌, ◌≤◌, [], ◌∷◌, ◌++◌, length, take, slice_index};
 ghost use Rattle.aes.specs.Keyed.{key_of};
 ghost use Rattle.chaining.specs.Blocks.{block_of};

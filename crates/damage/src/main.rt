@@ -1,4 +1,6 @@
 // What a fitter meets, and images with one byte damaged.
+#![tactic(auto)]
+
 mod fitting;
 mod images;
 

@@ -1,4 +1,6 @@
 // A day at one till and one meter: what is asked of them, call by call, and the balance at its end.
+#![tactic(auto)]
+
 ghost use Rattle.std.specs.Prelude.{◌≡◌, true, [], IfOk, MatchResult, OnOk};
 ghost use Rattle.store.specs.Plain.{plain_kept};
 ghost use Rattle.till_ledger.specs.Ledgers.{journal_of};

@@ -41,12 +41,12 @@ fn asked(heap: Global, call: &Call) -> Result<String, AllocError> {
         Call::Issue(order) => issue_asked(heap, order),
         Call::Void(cancellation) => {
             let number = cancellation.number;
-            format!(heap, "void of {number}")
+            format!(in heap; "void of {number}")
         }
         Call::Enter(_) => String::from_str(heap, "entry"),
         Call::Spend(usage) => {
             let amount = usage.amount;
-            format!(heap, "spend of {amount}")
+            format!(in heap; "spend of {amount}")
         }
     }
 }
@@ -57,14 +57,12 @@ fn issue_asked(heap: Global, order: &Order) -> Result<String, AllocError> {
     let config = order.sale.config;
     let amt = order.sale.amt;
     match order.sale.prices {
-        None => format!(
-            heap,
+        None => format!(in heap;
             "issue of {number}, SubClass {subclass}, AMTConfig {config}, AMT {amt}"
         ),
         Some(list) => {
             let count = list.count;
-            format!(
-                heap,
+            format!(in heap;
                 "issue of {number}, SubClass {subclass}, AMTConfig {config}, AMT {amt}, {count} prices"
             )
         }
@@ -88,31 +86,28 @@ fn answered(heap: Global, answer: &Answer) -> Result<String, AllocError> {
     match answer {
         Answer::Drawn(drawn) => {
             let number = drawn.number;
-            format!(heap, ": number {number}")
+            format!(in heap; ": number {number}")
         }
         Answer::Issued(slip) => {
             let digits = grouped(heap, slip)?;
-            format!(heap, ":{digits}")
+            format!(in heap; ":{digits}")
         }
         Answer::Voided => String::from_str(heap, ""),
         Answer::Taken(taken) => {
             let number = taken.number;
             let amount = taken.amount;
             let credit = taken.credit;
-            format!(
-                heap,
-                " taken: number {number}, amount {amount}, credit {credit}"
-            )
+            format!(in heap; " taken: number {number}, amount {amount}, credit {credit}")
         }
         Answer::Spent(spent) => {
             let credit = spent.credit;
-            format!(heap, ": credit {credit}")
+            format!(in heap; ": credit {credit}")
         }
         Answer::NotInHand => String::from_str(heap, " refused: not in hand"),
         Answer::Refused(refusal) => {
             let number = refusal.number();
             let why = reason(*refusal);
-            format!(heap, " refused: {number}, {why}")
+            format!(in heap; " refused: {number}, {why}")
         }
     }
 }
@@ -129,7 +124,7 @@ fn numbers(heap: Global, hand: &[DrawnNumber]) -> Result<String, AllocError> {
     let mut text = String::new(heap);
     for drawn in hand {
         let number = drawn.number();
-        text.push_str(format!(heap, " {number}")?.as_str())?;
+        text.push_str(format!(in heap; " {number}")?.as_str())?;
     }
     Ok(text)
 }
@@ -155,8 +150,7 @@ pub(crate) fn closing_text(
     let voids = counts.voids();
     let held = numbers(heap, hand)?;
     let verdict = if agrees { "agree" } else { "do not agree" };
-    format!(
-        heap,
+    format!(in heap;
         "closing balance\nopening credit {opened}, taken {taken}, spent {spent}, credit {credit}\ndraws {draws}, issues {issues}, voids {voids}, in hand {in_hand}\nin hand:{held}\nthe sums {verdict}"
     )
 }

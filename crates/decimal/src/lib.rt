@@ -1,4 +1,6 @@
 // Slips as digits: groups of twenty decimal digits, nineteen that spell a number and a check digit, and the blocks that they carry.
+#![tactic(auto)]
+
 ghost use Rattle.decimal.specs.Laws.{NoticesSwap, NoticesWrongDigit, RoundTrip};
 
 pub mod blocks;

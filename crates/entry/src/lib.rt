@@ -1,4 +1,6 @@
 // What an entry of digits comes to at a meter: a refusal, or a number, an amount and the next record.
+#![tactic(auto)]
+
 ghost use Rattle.std.specs.Prelude.{◌≡◌, ℕ};
 ghost use Rattle.sealing.specs.Suites.{suite};
 ghost use Rattle.entry.specs.Stages.{judged_by};

@@ -1,4 +1,6 @@
 // FF1 of SP 800-38G over AES-128: on numbers of any radix and length that there is room for, and as a cipher.
+#![tactic(auto)]
+
 ghost use Rattle.std.specs.Prelude.{◌≡◌, ◌%◌, ◌^◌, if◌then◌else◌, Some, None};
 ghost use Rattle.spelling.specs.Spelling.{bytes_of};
 ghost use Rattle.aes.specs.Keyed.{key_of};

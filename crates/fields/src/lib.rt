@@ -1,4 +1,6 @@
 // Tagged fields in a row of bytes: each a tag, two bytes of length, and so many bytes of value.
+#![tactic(auto)]
+
 ghost use Rattle.std.specs.Prelude.{◌≡◌};
 ghost use Rattle.fields.specs.Law.{FieldsLaw};
 ghost use Rattle.fields.specs.Fields.{cut};

@@ -1,4 +1,6 @@
 // Products of blocks as GHASH of SP 800-38D has them.
+#![tactic(auto)]
+
 ghost use Rattle.std.specs.Prelude.{◌≡◌};
 ghost use Rattle.ghash.specs.Ghash.{times_x, product_from, Multiplies};
 ghost use Rattle.ghash.specs.Folding.{times_x4};

@@ -1,4 +1,6 @@
 // GMAC of SP 800-38D over AES-128.
+#![tactic(auto)]
+
 ghost use Rattle.std.specs.Prelude.{◌≡◌};
 ghost use Rattle.gmac.specs.Gmac.{first_counter, gmac};
 ghost use Rattle.gmac.specs.Authenticating.{gmac_for, gmac_tag};

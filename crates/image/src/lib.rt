@@ -1,4 +1,6 @@
 // The image of a record: the record and the writes left, in 68 bytes of tagged fields.
+#![tactic(auto)]
+
 pub mod content;
 pub mod field;
 pub mod format;

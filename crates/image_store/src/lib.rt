@@ -1,4 +1,6 @@
 // A store in a memory that holds an image.
+#![tactic(auto)]
+
 ghost use Rattle.std.specs.Prelude.{◌≡◌, ltb, if◌then◌else◌, nat_lt};
 ghost use Rattle.std.proofs.Common.{ap, arith};
 ghost use Rattle.image_store.specs.Stores.{image_on, image_kept, image_writes, bytes_after, image_after};

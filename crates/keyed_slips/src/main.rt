@@ -1,4 +1,6 @@
 // Compares slips of tills with FF1 and GMAC or CMAC with those of an independent model.
+#![tactic(auto)]
+
 pub(crate) mod comparing;
 pub(crate) mod slips;
 

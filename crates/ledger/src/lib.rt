@@ -1,4 +1,6 @@
 // Any list of entries and spends at a meter, with the law over all of them.
+#![tactic(auto)]
+
 pub mod calls;
 pub mod keeping;
 pub mod ledger;

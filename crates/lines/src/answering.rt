@@ -11,7 +11,7 @@ fn taken_line(heap: Global, taken: Taken) -> Result<String, AllocError>
     let number = taken.number;
     let amount = taken.amount;
     let credit = taken.credit;
-    format!(heap, "A {number} {amount} {credit}")
+    format!(in heap; "A {number} {amount} {credit}")
 }
 
 fn spent_line(heap: Global, spent: Spent) -> Result<String, AllocError>
@@ -19,13 +19,13 @@ fn spent_line(heap: Global, spent: Spent) -> Result<String, AllocError>
 {
     let amount = spent.amount;
     let credit = spent.credit;
-    format!(heap, "S {amount} {credit}")
+    format!(in heap; "S {amount} {credit}")
 }
 
 fn refused_line(heap: Global, number: u8, credit: u32) -> Result<String, AllocError>
     ensures { IfOk result (λ line. string_bytes line ≡ codes "R" ++ spaced (number ∷ credit ∷ [])) }
 {
-    format!(heap, "R {number} {credit}")
+    format!(in heap; "R {number} {credit}")
 }
 
 // The line without its newline. A refusal does not carry the credit, so the caller adds what the meter has after the call.

@@ -1,4 +1,6 @@
 // One day of entries and spends over memories of different kinds.
+#![tactic(auto)]
+
 mod day;
 mod piles;
 

@@ -1,4 +1,6 @@
 // The meter: fitted, when it takes keys and no entries, and in service, when it takes entries, spends and questions and no keys.
+#![tactic(auto)]
+
 pub mod answers;
 pub mod fitted;
 pub mod parts;

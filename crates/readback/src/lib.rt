@@ -1,4 +1,6 @@
 // What a till prints, a meter reads.
+#![tactic(auto)]
+
 ghost use Rattle.readback.specs.Back.{SlipsReadBack, SlipsReadBackAnywhere, SlipDigits};
 
 // A slip that a till may issue is read at a meter of the same suite, with its number in the window and its index current, for the

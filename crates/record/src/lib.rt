@@ -1,4 +1,6 @@
 // The record that a meter keeps, and every function that makes one.
+#![tactic(auto)]
+
 ghost use Rattle.std.specs.Prelude.{◌≡◌, ◌+◌, if◌then◌else◌, Some, None, nat_le};
 ghost use Rattle.record.specs.Changes.{record_of, opening, taken, spent};
 

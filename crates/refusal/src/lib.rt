@@ -1,4 +1,6 @@
 // The closed list of refusals: why a call was not performed.
+#![tactic(auto)]
+
 ghost use Rattle.std.specs.Prelude.{◌≡◌};
 ghost use Rattle.refusal.specs.Numbers.{number_of};
 

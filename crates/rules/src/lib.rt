@@ -1,4 +1,6 @@
 // The rules of an entry in words, and the laws that every entry is judged by them, and that their tests tell them at any standing.
+#![tactic(auto)]
+
 ghost use Rattle.rules.specs.InWords.{RulesDecide, RulesAtAnyStanding};
 
 // An entry is taken where every rule is kept, and refused for the first that is broken; and at any standing, be it that of a record

@@ -1,4 +1,6 @@
 // A bench meter at the keyboard: each line of the input is an entry or a spend, and is answered at once.
+#![tactic(auto)]
+
 ghost use Rattle.std.specs.Prelude.{◌≡◌, [], IfOk, string_bytes, MatchResult};
 ghost use Rattle.store.specs.Plain.{plain_opening, plain_kept};
 ghost use Rattle.ledger.specs.Ledgers.{journal_of};

@@ -1,4 +1,6 @@
 // Stores of one record. What a store means is a record and a count of writes left.
+#![tactic(auto)]
+
 ghost use Rattle.std.specs.Prelude.{cond, ◌≡◌, ℕ, ◌-◌, ◌<◌, ◌≤◌, ltb};
 ghost use Rattle.record.specs.declared.Record.{Record};
 

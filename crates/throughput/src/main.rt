@@ -1,5 +1,7 @@
 // Times an AES block, a tag and an enciphering. Each works on what the one before it gave, so many times as the argument says, or 1000
 // times. The last value goes to the output, the time of one operation to the error output.
+#![tactic(auto)]
+
 pub(crate) mod laps;
 
 use aes::Aes128;

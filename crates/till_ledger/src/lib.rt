@@ -1,4 +1,6 @@
 // Any list of draws, issues, voids, entries and spends at a till and a meter, with the law over all of them.
+#![tactic(auto)]
+
 pub mod closing;
 mod desk;
 mod hand;

@@ -1,4 +1,6 @@
 // What a slip carries, in bits: its blocks with their fields, and rate prices in data parts.
+#![tactic(auto)]
+
 pub mod fields;
 pub mod first;
 pub mod further;

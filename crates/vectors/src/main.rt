@@ -1,5 +1,7 @@
 // Runs every published value, and values from implementations of others, through the keyed cipher and authenticators, and prints for
 // each group how many agree.
+#![tactic(auto)]
+
 pub(crate) mod agreeing;
 pub(crate) mod blocks;
 pub(crate) mod independent;

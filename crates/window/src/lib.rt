@@ -1,5 +1,7 @@
 // Numbers that are counted once: the window round the highest one, the marks of those counted, and the number that ten
 // bits stand for.
+#![tactic(auto)]
+
 ghost use Rattle.std.specs.Prelude.{◌≡◌, ◌+◌, ◌<◌, ◌≤◌, true, false};
 ghost use Rattle.window.specs.Limits.{room};
 ghost use Rattle.window.specs.Recovery.{lowest, uppermost, in_window, span, recovered_in, Lowest, Only, recovered, Recovers};

@@ -1,4 +1,6 @@
 // Slips worked out by hand, held against the definitions.
+#![tactic(auto)]
+
 ghost use Rattle.worked.specs.Worked.{WorkedSlips};
 
 // The definitions give what was worked out by hand.

@@ -1,4 +1,6 @@
 // Printed slips and calls worked out by hand, held against the definitions.
+#![tactic(auto)]
+
 ghost use Rattle.worked_sales.specs.Printed.{WorkedPrinting};
 ghost use Rattle.worked_sales.specs.Run.{WorkedRun};
 
