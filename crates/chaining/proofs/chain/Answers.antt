@@ -6,8 +6,8 @@ use Rattle.chaining.proofs.chain.Goals as goal
 pub loop-k-preserved : goal.loop-k-preserved
 loop-k-preserved g c =
     let xs = c.args.bytes.now in
-    chain_more (g.M.BlockMap.mapped c.args.map.now) xs c.loop-k.k c.loop-k.y c.block-of.result c.apply-y.result _
-    (omega (arith, block_count (length xs))) (c.block-of.ensures ∙ ap block_of (rest_is xs c.loop-k.k)) c.apply-y.ensures c.loop-k.invariant
+    chain_more (g.M.BlockMap.mapped c.args.map.now) xs c.loop-k.k c.loop-k.y c.block_of.result c.apply-y.result _
+    (omega (arith, block_count (length xs))) (c.block_of.ensures ∙ ap block_of (rest_is xs c.loop-k.k)) c.apply-y.ensures c.loop-k.invariant
 
 pub returns : goal.returns
 returns g c =

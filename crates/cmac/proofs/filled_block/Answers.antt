@@ -6,5 +6,5 @@ use Rattle.cmac.proofs.filled_block.Goals as goal
 pub returns : goal.returns
 unfolding block_of
 returns c =
-    c.block-of.ensures
+    c.block_of.ensures
     ∙ ap block_of (filled_all (λ i. get_or (c.args.rest.now ++ (128 ∷ [])) i 0) 0 16 c.loop-i.block c.loop-i.i (omega arith) c.loop-i.invariant)

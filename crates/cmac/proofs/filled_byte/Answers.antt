@@ -6,4 +6,4 @@ pub returns-then-i-rest : goal.returns-then-i-rest
 returns-then-i-rest c = sym (at_end c.args.rest.now c.args.i c.if-i-rest.true)
 
 pub returns : goal.returns
-returns c = c.byte-at.ensures ∙ sym (elsewhere c.args.rest.now c.args.i c.if-i-rest.false)
+returns c = c.byte_at.ensures ∙ sym (elsewhere c.args.rest.now c.args.i c.if-i-rest.false)

@@ -15,7 +15,7 @@ noted_more deeds i d before next end h noted rest = subst (λ (ds : List Deed). 
 pub loop-deed-preserved : goal.loop-deed-preserved
 loop-deed-preserved c = (
   λ kept. c.perform.ensures.kept (c.loop-deed.invariant.0 kept),
-  λ end rest. c.loop-deed.invariant.1 end (noted_more c.args.deeds.now c.loop-deed.deed-index _ (journal_of c.loop-deed.ledger) (journal_of c.perform.new.ledger) end c.loop-deed-test.true c.in-ok-perform.ensures.noted rest),
+  λ end rest. c.loop-deed.invariant.1 end (noted_more c.args.deeds.now c.loop-deed.deed-index _ (journal_of c.loop-deed.ledger) (journal_of c.perform.new.ledger) end c.loop-deed-test.true c.in_ok-perform.ensures.noted rest),
 )
 
 pub returns : goal.returns

@@ -17,8 +17,8 @@ returns c =
     let sums : c.balance-balance.result ≡ balance_of (journal_of l) =
     c.balance-balance.ensures.value ∙ ap balance_of (c.lines.ensures ∙ ap journal_of same) in
     let counts : c.counts-counts.result ≡ l.till.counts = c.counts-counts.ensures ∙ ap (λ (d : DayLedger). d.till.counts) same in
-    let held : length c.hand-in-hand.result.now ≡ length (vec_items l.hand) =
-    ap length (c.hand-in-hand.ensures ∙ ap (λ (d : DayLedger). vec_items d.hand) same) in
+    let held : length c.hand-in_hand.result.now ≡ length (vec_items l.hand) =
+    ap length (c.hand-in_hand.ensures ∙ ap (λ (d : DayLedger). vec_items d.hand) same) in
     let agrees : c.agree-agrees.result ≡ agreeing c.args.opened (plain_kept l.meter.parts.store).credit l.till.counts (length (vec_items l.hand)) (balance_of (journal_of l)) =
     c.agree-agrees.ensures ∙ (λ i. agreeing c.args.opened (credit i) (counts i) (held i) (sums i)) in
     record {

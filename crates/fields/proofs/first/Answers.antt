@@ -5,4 +5,4 @@ use Rattle.fields.proofs.first.Goals as goal
 pub returns : goal.returns
 returns c =
     let long : 3 ≤ length c.args.bytes.now = search rules in
-    hit c.args.bytes.now _ _ long c.if-rest-width.false c.split-at.ensures.front c.split-at.ensures.back
+    hit c.args.bytes.now _ _ long c.if-rest-width.false c.split_at.ensures.front c.split_at.ensures.back

@@ -5,11 +5,11 @@ use Rattle.aes.proofs.columns.last_column.Goals as goal
 
 pub returns : goal.returns
 returns c =
-    xor_bytes c.from-be-bytes.result c.args.k
-    (alike (sym c.from-be-bytes.ensures)
-    (c.substitute-row0.ensures.value ∙ ap (λ (xs : List ℕ). sbox (get_or xs 0 0)) c.to-be-bytes.ensures)
-    (c.substitute-row1.ensures.value ∙ ap (λ (xs : List ℕ). sbox (get_or xs 1 0)) c.to-be-bytes-2.ensures)
-    (c.substitute-row2.ensures.value ∙ ap (λ (xs : List ℕ). sbox (get_or xs 2 0)) c.to-be-bytes-3.ensures)
-    (c.substitute-row3.ensures.value ∙ ap (λ (xs : List ℕ). sbox (get_or xs 3 0)) c.to-be-bytes-4.ensures)
+    xor_bytes c.from_be_bytes.result c.args.k
+    (alike (sym c.from_be_bytes.ensures)
+    (c.substitute-row0.ensures.value ∙ ap (λ (xs : List ℕ). sbox (get_or xs 0 0)) c.to_be_bytes.ensures)
+    (c.substitute-row1.ensures.value ∙ ap (λ (xs : List ℕ). sbox (get_or xs 1 0)) c.to_be_bytes-2.ensures)
+    (c.substitute-row2.ensures.value ∙ ap (λ (xs : List ℕ). sbox (get_or xs 2 0)) c.to_be_bytes-3.ensures)
+    (c.substitute-row3.ensures.value ∙ ap (λ (xs : List ℕ). sbox (get_or xs 3 0)) c.to_be_bytes-4.ensures)
     (joined_bytes c.substitute-row0.result c.substitute-row1.result c.substitute-row2.result c.substitute-row3.result
-    c.substitute-row0.type-inv c.substitute-row1.type-inv c.substitute-row2.type-inv c.substitute-row3.type-inv)) (own_bytes c.args.k)
+    c.substitute-row0.type_inv c.substitute-row1.type_inv c.substitute-row2.type_inv c.substitute-row3.type_inv)) (own_bytes c.args.k)

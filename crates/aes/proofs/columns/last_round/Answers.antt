@@ -3,4 +3,4 @@ use Rattle.aes.proofs.columns.last_round.Goals as goal
 
 pub returns : goal.returns
 returns c =
-    last_is c.args.s.now c.args.k.now c.last-column.ensures c.last-column-2.ensures c.last-column-3.ensures c.last-column-4.ensures
+    last_is c.args.s.now c.args.k.now c.last_column.ensures c.last_column-2.ensures c.last_column-3.ensures c.last_column-4.ensures

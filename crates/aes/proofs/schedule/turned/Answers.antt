@@ -6,10 +6,10 @@ use Rattle.aes.proofs.schedule.turned.Goals as goal
 
 pub returns : goal.returns
 returns c =
-    alike (sym c.from-be-bytes.ensures)
-    (ap (λ (s : ℕ). bit_xor s c.args.constant) (c.substitute.ensures.value ∙ ap (λ (xs : List ℕ). sbox (get_or xs 1 0)) c.to-be-bytes.ensures))
-    (c.substitute-row1.ensures.value ∙ ap (λ (xs : List ℕ). sbox (get_or xs 2 0)) c.to-be-bytes.ensures)
-    (c.substitute-row2.ensures.value ∙ ap (λ (xs : List ℕ). sbox (get_or xs 3 0)) c.to-be-bytes.ensures)
-    (c.substitute-row3.ensures.value ∙ ap (λ (xs : List ℕ). sbox (get_or xs 0 0)) c.to-be-bytes.ensures)
+    alike (sym c.from_be_bytes.ensures)
+    (ap (λ (s : ℕ). bit_xor s c.args.constant) (c.substitute.ensures.value ∙ ap (λ (xs : List ℕ). sbox (get_or xs 1 0)) c.to_be_bytes.ensures))
+    (c.substitute-row1.ensures.value ∙ ap (λ (xs : List ℕ). sbox (get_or xs 2 0)) c.to_be_bytes.ensures)
+    (c.substitute-row2.ensures.value ∙ ap (λ (xs : List ℕ). sbox (get_or xs 3 0)) c.to_be_bytes.ensures)
+    (c.substitute-row3.ensures.value ∙ ap (λ (xs : List ℕ). sbox (get_or xs 0 0)) c.to_be_bytes.ensures)
     (joined_bytes (bit_xor c.substitute.result c.args.constant) c.substitute-row1.result c.substitute-row2.result c.substitute-row3.result
-    (xor_lt 8 c.substitute.result c.args.constant c.substitute.type-inv (search rules)) c.substitute-row1.type-inv c.substitute-row2.type-inv c.substitute-row3.type-inv)
+    (xor_lt 8 c.substitute.result c.args.constant c.substitute.type_inv (search rules)) c.substitute-row1.type_inv c.substitute-row2.type_inv c.substitute-row3.type_inv)

@@ -2,8 +2,8 @@ use Rattle.std.proofs.Common.{sym, refl, arith, length-take}
 use Rattle.std.proofs.lemmas.List.{take_all}
 use Rattle.authenticator.proofs.byte_sum.counting_part.Goals as goal
 
-pub slice-bounds-result-end : goal.slice-bounds-result-end
-slice-bounds-result-end c = simp length-take (omega arith)
+pub slice_bounds-result-end : goal.slice_bounds-result-end
+slice_bounds-result-end c = simp length-take (omega arith)
 
 pub returns-then-message-gt64 : goal.returns-then-message-gt64
 returns-then-message-gt64 c = (refl, simp length-take (omega arith))

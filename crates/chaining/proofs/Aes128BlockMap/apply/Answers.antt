@@ -9,5 +9,5 @@ pub returns : goal.returns
 unfolding aes_block
 returns c =
     let sixteen : length c.encrypt.result ≡ 16 = search rules in
-    c.from-be-bytes.ensures ∙ number_is c.encrypt.result sixteen
-    ∙ ap (number_from_digits 256) (c.encrypt.ensures ∙ ap (aes c.args.self.now.key) c.to-be-bytes.ensures)
+    c.from_be_bytes.ensures ∙ number_is c.encrypt.result sixteen
+    ∙ ap (number_from_digits 256) (c.encrypt.ensures ∙ ap (aes c.args.self.now.key) c.to_be_bytes.ensures)

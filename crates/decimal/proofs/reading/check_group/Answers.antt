@@ -5,22 +5,22 @@ use Rattle.refusal.specs.Checks.{provided}
 use Rattle.decimal.proofs.Grouping.{group_undigit, group_unlast, group_digits}
 use Rattle.decimal.proofs.reading.check_group.Goals as goal
 
-pub returns-in-default : goal.returns-in-default
-returns-in-default c = group_undigit c.args.before c.args.group.now c.requires.twenty c.in-default.ensures.value
+pub returns-in_default : goal.returns-in_default
+returns-in_default c = group_undigit c.args.before c.args.group.now c.requires.twenty c.in_default.ensures.value
 
-pub returns-in-default-digit-of : goal.returns-in-default-digit-of
-returns-in-default-digit-of c = group_unlast c.args.before c.args.group.now c.in-Some.expected c.requires.twenty c.in-Some.ensures.value c.in-default-digit-of.ensures
+pub returns-in_default-digit_of : goal.returns-in_default-digit_of
+returns-in_default-digit_of c = group_unlast c.args.before c.args.group.now c.in-Some.expected c.requires.twenty c.in-Some.ensures.value c.in_default-digit_of.ensures
 
 pub returns-then-last-expected : goal.returns-then-last-expected
 returns-then-last-expected c =
-    let d = c.in-Some-digit-of.last in
+    let d = c.in-Some-digit_of.last in
     let e = c.in-Some.expected in
     let f = ne_eqb d e c.if-last-expected.true in
-    sym (group_digits c.args.before c.args.group.now e d c.requires.twenty c.in-Some.ensures.value c.in-Some-digit-of.ensures ∙ ap (λ b. provided b CheckDigit (Ok d)) f)
+    sym (group_digits c.args.before c.args.group.now e d c.requires.twenty c.in-Some.ensures.value c.in-Some-digit_of.ensures ∙ ap (λ b. provided b CheckDigit (Ok d)) f)
 
 pub returns : goal.returns
 returns c =
-    let d = c.in-Some-digit-of.last in
+    let d = c.in-Some-digit_of.last in
     let e = c.in-Some.expected in
     let f = eq-eqb d e c.if-last-expected.false in
-    sym (group_digits c.args.before c.args.group.now e d c.requires.twenty c.in-Some.ensures.value c.in-Some-digit-of.ensures ∙ ap (λ b. provided b CheckDigit (Ok d)) f)
+    sym (group_digits c.args.before c.args.group.now e d c.requires.twenty c.in-Some.ensures.value c.in-Some-digit_of.ensures ∙ ap (λ b. provided b CheckDigit (Ok d)) f)

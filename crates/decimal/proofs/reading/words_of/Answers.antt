@@ -8,18 +8,18 @@ use Rattle.refusal.proofs.Passing.{was_ok}
 use Rattle.decimal.proofs.Grouping.{one_unblocked, filled, grouped-fits, all_words}
 use Rattle.decimal.proofs.reading.words_of.Goals as goal
 
-pub returns-in-err-words : goal.returns-in-err-words
-returns-in-err-words c =
+pub returns-in_err-words : goal.returns-in_err-words
+returns-in_err-words c =
     let p = err_from_is_err_and c.from-residual.result c.from-residual.ensures.1 in
-    rw (p.1, p.2) (one_unblocked c.args.text.now c.loop-i.i _ c.loop-i-test.true c.in-err-words.ensures)
+    rw (p.1, p.2) (one_unblocked c.args.text.now c.loop-i.i _ c.loop-i-test.true c.in_err-words.ensures)
 
 pub loop-i-preserved : goal.loop-i-preserved
 loop-i-preserved c =
     let ds = values c.args.text.now in
     let f = grouped-fits c.args.text.now c.requires.whole in
     let i = c.loop-i.i in
-    let v = c.in-ok-words.field-0 in
-    let w = was_ok (has_block ds i) NoBlock (block_at ds i) v c.in-ok-words.ensures in (
+    let v = c.in_ok-words.field-0 in
+    let w = was_ok (has_block ds i) NoBlock (block_at ds i) v c.in_ok-words.ensures in (
       up_more (has_block ds) i w.0 c.loop-i.invariant.0,
       simp length-set c.loop-i.invariant.1,
       filled c.loop-i.words (block_at ds) i v (omega (arith, f.2)) w.1 c.loop-i.invariant.2,

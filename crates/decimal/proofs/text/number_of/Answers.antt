@@ -5,16 +5,16 @@ use Rattle.decimal.specs.Digits.{values}
 use Rattle.decimal.proofs.Padding.{number_step}
 use Rattle.decimal.proofs.text.number_of.Goals as goal
 
-pub overflow-mul-n : goal.overflow-mul-n
-overflow-mul-n c =
+pub overflow_mul-n : goal.overflow_mul-n
+overflow_mul-n c =
     let s = number_step c.args.text.now c.loop-byte.byte-index c.loop-byte.n c.requires.decimal c.requires.short c.loop-byte-test.true c.loop-byte.invariant in
     omega (arith, s.1)
 
-pub overflow-sub-byte : goal.overflow-sub-byte
-overflow-sub-byte c = (number_step c.args.text.now c.loop-byte.byte-index c.loop-byte.n c.requires.decimal c.requires.short c.loop-byte-test.true c.loop-byte.invariant).0
+pub overflow_sub-byte : goal.overflow_sub-byte
+overflow_sub-byte c = (number_step c.args.text.now c.loop-byte.byte-index c.loop-byte.n c.requires.decimal c.requires.short c.loop-byte-test.true c.loop-byte.invariant).0
 
-pub overflow-add-n : goal.overflow-add-n
-overflow-add-n c =
+pub overflow_add-n : goal.overflow_add-n
+overflow_add-n c =
     let s = number_step c.args.text.now c.loop-byte.byte-index c.loop-byte.n c.requires.decimal c.requires.short c.loop-byte-test.true c.loop-byte.invariant in
     omega (arith, s.1, c.from.ensures)
 

@@ -6,11 +6,11 @@ use Rattle.decimal.proofs.Verdicts.{was_some, was_none}
 use Rattle.decimal.proofs.Rows.{running_more, running_all, row_stops, row_ends}
 use Rattle.decimal.proofs.verhoeff.closing.Goals as goal
 
-pub returns-in-default : goal.returns-in-default
-returns-in-default c =
+pub returns-in_default : goal.returns-in_default
+returns-in_default c =
     let t = c.args.text.now in
     let i = c.loop-i.i in
-    row_stops t i _ (omega arith) (was_none (is_digit (get_or t i 0)) (get_or t i 0 - 48) c.in-default.ensures) c.loop-i.invariant.1
+    row_stops t i _ (omega arith) (was_none (is_digit (get_or t i 0)) (get_or t i 0 - 48) c.in_default.ensures) c.loop-i.invariant.1
 
 pub loop-i-preserved : goal.loop-i-preserved
 loop-i-preserved c =

@@ -2,14 +2,14 @@ use Rattle.std.proofs.Common.{rules}
 use Rattle.entry.specs.Stages.{tariff_from}
 use Rattle.entry.proofs.weighing.new_tariff.Goals as goal
 
-pub returns-in-err-rate-prices : goal.returns-in-err-rate-prices
+pub returns-in_err-rate_prices : goal.returns-in_err-rate_prices
 unfolding tariff_from
-returns-in-err-rate-prices c = search rules
+returns-in_err-rate_prices c = search rules
 
 pub returns-in-Clear : goal.returns-in-Clear
 unfolding tariff_from
 returns-in-Clear c = search rules
 
-pub returns-in-ok-rate-prices : goal.returns-in-ok-rate-prices
+pub returns-in_ok-rate_prices : goal.returns-in_ok-rate_prices
 unfolding tariff_from
-returns-in-ok-rate-prices c = search rules
+returns-in_ok-rate_prices c = search rules

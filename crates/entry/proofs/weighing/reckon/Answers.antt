@@ -2,25 +2,25 @@ use Rattle.std.proofs.Common.{rules}
 use Rattle.entry.specs.Stages.{reckoned}
 use Rattle.entry.proofs.weighing.reckon.Goals as goal
 
-pub returns-then-not-is-authentic : goal.returns-then-not-is-authentic
+pub returns-then-not-is_authentic : goal.returns-then-not-is_authentic
 unfolding reckoned
-returns-then-not-is-authentic g c = search rules
+returns-then-not-is_authentic g c = search rules
 
-pub returns-then-is-marked : goal.returns-then-is-marked
+pub returns-then-is_marked : goal.returns-then-is_marked
 unfolding reckoned
-returns-then-is-marked g c = search rules
+returns-then-is_marked g c = search rules
 
 pub returns-then-multiplier-eq0 : goal.returns-then-multiplier-eq0
 unfolding reckoned
 returns-then-multiplier-eq0 g c = search rules
 
-pub returns-in-err-tariff : goal.returns-in-err-tariff
+pub returns-in_err-tariff : goal.returns-in_err-tariff
 unfolding reckoned
-returns-in-err-tariff g c = search rules
+returns-in_err-tariff g c = search rules
 
-pub returns-in-default : goal.returns-in-default
+pub returns-in_default : goal.returns-in_default
 unfolding reckoned
-returns-in-default g c = search rules
+returns-in_default g c = search rules
 
 pub returns : goal.returns
 unfolding reckoned

@@ -2,13 +2,13 @@ use Rattle.std.proofs.Common.{rules}
 use Rattle.entry.specs.Stages.{weighed}
 use Rattle.entry.proofs.weighing.weigh.Goals as goal
 
-pub returns-then-not-is-raisable : goal.returns-then-not-is-raisable
+pub returns-then-not-is_raisable : goal.returns-then-not-is_raisable
 unfolding weighed
-returns-then-not-is-raisable g c = search rules
+returns-then-not-is_raisable g c = search rules
 
-pub returns-in-default : goal.returns-in-default
+pub returns-in_default : goal.returns-in_default
 unfolding weighed
-returns-in-default g c = search rules
+returns-in_default g c = search rules
 
 pub returns : goal.returns
 unfolding weighed

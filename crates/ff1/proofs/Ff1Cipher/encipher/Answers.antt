@@ -9,7 +9,7 @@ pub forth-requires : goal.forth-requires
 forth-requires c =
     let self = c.args.self.now in
     let h = width_ready c.args.width (key_of self.aes) (bytes_of 8 self.meter) _ c.rounds-rounds.ensures in
-    record { sized = h.sizes; small = omega (arith, h.product, c.from.ensures, c.low-bits.ensures.bound) }
+    record { sized = h.sizes; small = omega (arith, h.product, c.from.ensures, c.low_bits.ensures.bound) }
 
 pub returns : goal.returns
 returns c =
@@ -19,6 +19,6 @@ returns c =
     let tweak = bytes_of 8 self.meter in
     let h = width_ready w key tweak _ c.rounds-rounds.ensures in
     record {
-      value = enciphered_width 2 (bits w) key tweak _ h c.args.n c.from.result (c.from.ensures ∙ c.low-bits.ensures.value) c.forth.result c.forth.ensures.value;
+      value = enciphered_width 2 (bits w) key tweak _ h c.args.n c.from.result (c.from.ensures ∙ c.low_bits.ensures.value) c.forth.result c.forth.ensures.value;
       bound = omega (arith, h.product, c.forth.ensures.bound);
     }

@@ -4,14 +4,14 @@ use Rattle.ff1.specs.Network.{ten_rounds}
 use Rattle.ff1.proofs.Rounding.{apart, rejoined, rejoined_below}
 use Rattle.ff1.proofs.network.forth.Goals as goal
 
-pub overflow-cast-x : goal.overflow-cast-x
-overflow-cast-x c =
+pub overflow_cast-x : goal.overflow_cast-x
+overflow_cast-x c =
     let s = c.args.rounds.now.sizes in
     let h = apart c.args.x s.left s.right c.from-n.result c.from-n.ensures c.requires.sized.some_right c.requires.small in
     record { fits = omega (arith, h.0, c.requires.sized.left_fits) }
 
-pub ten-rounds-a-requires : goal.ten-rounds-a-requires
-ten-rounds-a-requires c =
+pub ten_rounds-a-requires : goal.ten_rounds-a-requires
+ten_rounds-a-requires c =
     let s = c.args.rounds.now.sizes in
     record {
       sized = c.requires.sized;
@@ -25,8 +25,8 @@ returns c =
     record {
       value =
           rejoined (ten_rounds (key_of c.args.aes.now) r) c.args.x s.right c.from-n.result c.from.result c.from-2.result _ _
-          c.from-n.ensures c.from.ensures c.from-2.ensures c.ten-rounds-a.ensures.value;
+          c.from-n.ensures c.from.ensures c.from-2.ensures c.ten_rounds-a.ensures.value;
       bound =
           rejoined_below s.left s.right c.from-n.result c.from.result c.from-2.result _ _
-          c.from-n.ensures c.from.ensures c.from-2.ensures c.ten-rounds-a.ensures.bound.0 c.ten-rounds-a.ensures.bound.1;
+          c.from-n.ensures c.from.ensures c.from-2.ensures c.ten_rounds-a.ensures.bound.0 c.ten_rounds-a.ensures.bound.1;
     }

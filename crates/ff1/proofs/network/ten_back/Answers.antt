@@ -14,12 +14,12 @@ loop-k-preserved c =
     let r = c.args.rounds.now in
     let m = r.sizes.left in
     let n = r.sizes.right in (
-      c.take-away-p.ensures.bound,
-      c.take-away-q.ensures.bound,
+      c.take_away-p.ensures.bound,
+      c.take_away-q.ensures.bound,
       two_less m n (masked (key_of c.args.aes.now) r.mask r.sizes.bytes) c.loop-k.k c.loop-k.p c.loop-k.q
-          c.take-away-p.result c.take-away-q.result _ (omega arith)
-          (c.take-away-q.ensures.value ∙ ap (λ (y : ℕ). (c.loop-k.q + (n - y % n)) % n) c.round-number.ensures)
-          (c.take-away-p.ensures.value ∙ ap (λ (y : ℕ). (c.loop-k.p + (m - y % m)) % m) c.round-number-in-loop-k.ensures)
+          c.take_away-p.result c.take_away-q.result _ (omega arith)
+          (c.take_away-q.ensures.value ∙ ap (λ (y : ℕ). (c.loop-k.q + (n - y % n)) % n) c.round_number.ensures)
+          (c.take_away-p.ensures.value ∙ ap (λ (y : ℕ). (c.loop-k.p + (m - y % m)) % m) c.round_number-in-loop-k.ensures)
           c.loop-k.invariant.2,
     )
 

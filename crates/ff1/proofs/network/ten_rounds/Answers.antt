@@ -16,8 +16,8 @@ loop-j-preserved c =
       c.add-q.ensures.bound,
       two_more m n (masked (key_of c.args.aes.now) r.mask r.sizes.bytes) c.loop-j.j c.loop-j.p c.loop-j.q
           c.add-p.result c.add-q.result _ (omega arith)
-          (c.add-p.ensures.value ∙ ap (λ (y : ℕ). (c.loop-j.p + y) % m) c.round-number.ensures)
-          (c.add-q.ensures.value ∙ ap (λ (y : ℕ). (c.loop-j.q + y) % n) c.round-number-in-loop-j.ensures)
+          (c.add-p.ensures.value ∙ ap (λ (y : ℕ). (c.loop-j.p + y) % m) c.round_number.ensures)
+          (c.add-q.ensures.value ∙ ap (λ (y : ℕ). (c.loop-j.q + y) % n) c.round_number-in-loop-j.ensures)
           c.loop-j.invariant.2,
     )
 

@@ -2,8 +2,8 @@ use Rattle.std.proofs.Common.{arith, rules}
 use Rattle.ff1.proofs.Powers.{byte_step, bytes_done, eight_bytes}
 use Rattle.ff1.proofs.sizing.byte_count.Goals as goal
 
-pub overflow-add-count : goal.overflow-add-count
-overflow-add-count c = record { fits = omega (arith, c.loop-rest.invariant, eight_bytes c.args.n (search rules)) }
+pub overflow_add-count : goal.overflow_add-count
+overflow_add-count c = record { fits = omega (arith, c.loop-rest.invariant, eight_bytes c.args.n (search rules)) }
 
 pub loop-rest-preserved : goal.loop-rest-preserved
 loop-rest-preserved c =

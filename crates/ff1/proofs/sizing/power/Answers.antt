@@ -17,8 +17,8 @@ bounded c =
     let l : c.loop-i.p ≤ 2 ^ 63 / c.args.radix = subst (λ (k : ℕ). c.loop-i.p ≤ 2 ^ 63 / k) c.from.ensures c.if-p-from.false in
     subst (λ (k : ℕ). c.loop-i.p * k ≤ 2 ^ 63) (sym c.from-p.ensures) (more c.args.radix c.loop-i.p c.requires l)
 
-pub overflow-mul-p : goal.overflow-mul-p
-overflow-mul-p c = record { fits = omega (arith, bounded c) }
+pub overflow_mul-p : goal.overflow_mul-p
+overflow_mul-p c = record { fits = omega (arith, bounded c) }
 
 pub loop-i-preserved : goal.loop-i-preserved
 loop-i-preserved c =

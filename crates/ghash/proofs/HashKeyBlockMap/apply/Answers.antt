@@ -11,7 +11,7 @@ loop-i-preserved c =
     let h = c.args.self.now in
     let n : ℕ = c.args.block / 2 ^ (4 * c.loop-i.i) % 16 in
     let small : n < 16 = omega arith in
-    ap₂ bit_xor c.times-x4.ensures (product_at h.key h.products n small h.kept)
+    ap₂ bit_xor c.times_x4.ensures (product_at h.key h.products n small h.kept)
     ∙ four_more c.loop-i.i c.args.block h.key c.loop-i.z c.loop-i.invariant
 
 pub returns : goal.returns

@@ -3,8 +3,8 @@ use Rattle.ghash.specs.Keyed.{hash_for}
 use Rattle.gmac.proofs.Tagging.{made}
 use Rattle.gmac.proofs.GmacAuthenticator.keyed.Goals as goal
 
-pub invariant-of-result : goal.invariant-of-result
-invariant-of-result c = (c.new-hash.ensures ∙ ap hash_for c.apply.ensures, tt)
+pub invariant_of-result : goal.invariant_of-result
+invariant_of-result c = (c.new-hash.ensures ∙ ap hash_for c.apply.ensures, tt)
 
 pub returns : goal.returns
 returns c = made _ c.args.-meter _ _ _ c.new-aes.ensures

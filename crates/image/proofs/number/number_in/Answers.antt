@@ -4,14 +4,14 @@ use Rattle.std.proofs.lemmas.Int.Digits.{number_more}
 use Rattle.image.proofs.Numbers.{more, sixteen}
 use Rattle.image.proofs.number.number_in.Goals as goal
 
-pub overflow-mul-n : goal.overflow-mul-n
-overflow-mul-n c =
+pub overflow_mul-n : goal.overflow_mul-n
+overflow_mul-n c =
     let m = more c.loop-b.n 0 c.loop-b.b-index c.loop-b.invariant.1 (omega arith) in
     let r = sixteen (c.loop-b.b-index + 1) (omega arith) in
     record { fits = omega arith }
 
-pub overflow-add-n : goal.overflow-add-n
-overflow-add-n c =
+pub overflow_add-n : goal.overflow_add-n
+overflow_add-n c =
     let small : get_or c.args.bytes.now c.loop-b.b-index 0 < 256 = search rules in
     let m = more c.loop-b.n _ c.loop-b.b-index c.loop-b.invariant.1 small in
     let r = sixteen (c.loop-b.b-index + 1) (omega arith) in

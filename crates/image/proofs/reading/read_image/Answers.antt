@@ -9,7 +9,7 @@ use Rattle.image.proofs.reading.read_image.Goals as goal
 pub returns : goal.returns
 returns c =
     let bytes = c.args.memory.now in
-    let told : Image = record { kept = c.in-ok-kept.kept; writes = c.number-in.result } in
+    let told : Image = record { kept = c.in_ok-kept.kept; writes = c.number_in.result } in
     let value : Some told ≡ decoded bytes = rw (decoded_chain bytes) (search rules) in
     let small : (i : ℕ) → get_or bytes i 0 < 256 = λ i. search rules in
     record {
@@ -18,11 +18,11 @@ returns c =
       room = image_long bytes told (sym value);
     }
 
-pub returns-in-err-fields : goal.returns-in-err-fields
-returns-in-err-fields c = record { value = rw (decoded_chain c.args.memory.now) (search rules); written = search rules; room = search rules }
+pub returns-in_err-fields : goal.returns-in_err-fields
+returns-in_err-fields c = record { value = rw (decoded_chain c.args.memory.now) (search rules); written = search rules; room = search rules }
 
-pub returns-in-err-writes : goal.returns-in-err-writes
-returns-in-err-writes c = record { value = rw (decoded_chain c.args.memory.now) (search rules); written = search rules; room = search rules }
+pub returns-in_err-writes : goal.returns-in_err-writes
+returns-in_err-writes c = record { value = rw (decoded_chain c.args.memory.now) (search rules); written = search rules; room = search rules }
 
-pub returns-in-err-kept : goal.returns-in-err-kept
-returns-in-err-kept c = record { value = rw (decoded_chain c.args.memory.now) (search rules); written = search rules; room = search rules }
+pub returns-in_err-kept : goal.returns-in_err-kept
+returns-in_err-kept c = record { value = rw (decoded_chain c.args.memory.now) (search rules); written = search rules; room = search rules }

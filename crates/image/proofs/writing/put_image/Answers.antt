@@ -6,4 +6,4 @@ use Rattle.image.proofs.writing.put_image.Goals as goal
 pub returns : goal.returns
 returns c =
     let room : c.args.writes < 256 ^ 4 = search rules in
-    put_all c.args.kept c.args.writes _ c.args.memory.now _ _ (c.to-be-bytes.ensures ∙ spelled_bytes 3 c.args.writes room) c.put-record.ensures c.put-field.ensures
+    put_all c.args.kept c.args.writes _ c.args.memory.now _ _ (c.to_be_bytes.ensures ∙ spelled_bytes 3 c.args.writes room) c.put_record.ensures c.put_field.ensures

@@ -3,5 +3,5 @@ use Rattle.token.specs.FurtherBlocks.{carriable}
 use Rattle.token.proofs.RateLaws.{held-carriable}
 use Rattle.sale.proofs.checking.further_of.Goals as goal
 
-pub behind-first-requires : goal.behind-first-requires
-behind-first-requires c = ap carriable c.as-slice.ensures ∙ held-carriable c.in-ok-parts.parts
+pub behind_first-requires : goal.behind_first-requires
+behind_first-requires c = ap carriable c.as_slice.ensures ∙ held-carriable c.in_ok-parts.parts

@@ -24,7 +24,7 @@ unwrap-length-requires g c =
     let sale = c.args.sale.now in
     let ready = was_ready s sale c.in-Some.ready c.in-Some.ensures in
     writes _ (keeps g s c.args.cipher.now c.args.authenticator.now) c.args.number c.args.index sale ready.0
-    c.seal-blocks.result c.present-of.result.now c.seal-blocks.ensures c.present-of.ensures c.write-blocks.result c.write-blocks.ensures.answer
+    c.seal-blocks.result c.present_of.result.now c.seal-blocks.ensures c.present_of.ensures c.write_blocks.result c.write_blocks.ensures.answer
 
 pub returns : goal.returns
 returns g c =
@@ -34,10 +34,10 @@ returns g c =
     let agreed = suite s (g.C.Cipher.enciphered c.args.cipher.now) (g.C.Cipher.deciphered c.args.cipher.now) (g.A.Authenticator.tagged c.args.authenticator.now) in
     let ready = was_ready s sale c.in-Some.ready c.in-Some.ensures in
     let k : c.in-Some.ready.subclass ≡ sub_class_named sale.subclass = ap (λ (r : Ready). r.subclass) ready.1 in
-    let up : raisable (sub_class_named sale.subclass) index ≡ true = ap (λ x. raisable x index) (sym k) ∙ sym c.if-not-is-raisable.ensures in
+    let up : raisable (sub_class_named sale.subclass) index ≡ true = ap (λ x. raisable x index) (sym k) ∙ sym c.if-not-is_raisable.ensures in
     let out = prints agreed (keeps g s c.args.cipher.now c.args.authenticator.now) c.args.number index sale ready.0
-    c.seal-blocks.result c.present-of.result.now c.seal-blocks.ensures c.present-of.ensures c.write-blocks.result c.unwrap-length.result
-    c.args.slip.now c.write-blocks.new.slip c.write-blocks.ensures.answer c.unwrap-length.ensures c.write-blocks.ensures.bytes in
+    c.seal-blocks.result c.present_of.result.now c.seal-blocks.ensures c.present_of.ensures c.write_blocks.result c.unwrap-length.result
+    c.args.slip.now c.write_blocks.new.slip c.write_blocks.ensures.answer c.unwrap-length.ensures c.write_blocks.ensures.bytes in
     record {
       answer = λ i. provided (sym ready.0 i) NoSale (provided (sym up i) TillIndexFull (Ok (record { length = out.0 i; subclass = k i })));
       bytes = out.1 ∙ (λ i. cond (sym ready.0 i && sym up i) (slip_for agreed c.args.number index sale) c.args.slip.now);

@@ -24,9 +24,9 @@ unwrap-block-requires g c =
     let s = c.args.settings.now in
     let sale = c.args.sale.now in
     let o = keeps g s c.args.cipher.now c.args.authenticator.now in
-    let tag : c.tag-field-tmac.result ≡ tag_sold _ c.args.number c.args.index sale =
-    c.tag-field-tmac.ensures ∙ tag_is _ c.args.number c.args.index sale c.args.ready.now c.requires.readied in
-    is_packed (first_sold c.args.number sale c.tag-field-tmac.result) c.pack.result
+    let tag : c.tag_field-tmac.result ≡ tag_sold _ c.args.number c.args.index sale =
+    c.tag_field-tmac.ensures ∙ tag_is _ c.args.number c.args.index sale c.args.ready.now c.requires.readied in
+    is_packed (first_sold c.args.number sale c.tag_field-tmac.result) c.pack.result
     (ap (λ t. first_fits (first_sold c.args.number sale t)) tag ∙ first_fits_lem _ o c.args.number c.args.index sale (sold_by s sale c.requires.salable))
     c.pack.ensures
 
@@ -38,8 +38,8 @@ returns g c =
     let v = sold_by s sale c.requires.salable in
     let ps = parts_sold sale.prices in
     let most : length (further_sold sale) ≤ 3 = omega (arith, length-numbered ps, few ps (carries (sub_class_named sale.subclass) sale.prices v.prices).carried) in
-    filled _ c.args.number c.args.index sale c.args.ready.now c.tag-field-tmac.result c.unwrap-block.result c.pack.result c.low-through.result
+    filled _ c.args.number c.args.index sale c.args.ready.now c.tag_field-tmac.result c.unwrap-block.result c.pack.result c.low_through.result
     c.requires.readied most
-    (c.tag-field-tmac.ensures ∙ tag_is _ c.args.number c.args.index sale c.args.ready.now c.requires.readied)
+    (c.tag_field-tmac.ensures ∙ tag_is _ c.args.number c.args.index sale c.args.ready.now c.requires.readied)
     (first_fits_lem _ o c.args.number c.args.index sale v)
-    c.pack.ensures c.unwrap-block.ensures c.low-through.ensures
+    c.pack.ensures c.unwrap-block.ensures c.low_through.ensures

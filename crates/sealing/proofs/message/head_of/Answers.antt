@@ -12,8 +12,8 @@ returns c =
     record {
       value = seven c.args.settings.now c.args.number c.args.index first
           (said c.new-message.result) (said c.push.new.self) (said c.push-2.new.self) (said c.push-3.new.self) (said c.push-4.new.self) (said c.push-5.new.self) (said c.push-6.new.self) (said c.push-7.new.self)
-          c.to-be-bytes.result c.to-be-bytes-2.result c.to-be-bytes-3.result (low c.to-be-bytes-4.result) c.to-be-bytes-5.result k j
-          c.to-be-bytes.ensures c.to-be-bytes-2.ensures c.to-be-bytes-3.ensures (ap low c.to-be-bytes-4.ensures) c.to-be-bytes-5.ensures
+          c.to_be_bytes.result c.to_be_bytes-2.result c.to_be_bytes-3.result (low c.to_be_bytes-4.result) c.to_be_bytes-5.result k j
+          c.to_be_bytes.ensures c.to_be_bytes-2.ensures c.to_be_bytes-3.ensures (ap low c.to_be_bytes-4.ensures) c.to_be_bytes-5.ensures
           c.new-message.ensures.value c.push.ensures.value c.push-2.ensures.value c.push-3.ensures.value c.push-4.ensures.value c.push-5.ensures.value c.push-6.ensures.value c.push-7.ensures.value;
       len = search rules;
     }

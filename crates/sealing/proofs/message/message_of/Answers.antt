@@ -7,9 +7,9 @@ pub loop-block-preserved : goal.loop-block-preserved
 loop-block-preserved c =
     let bs = c.args.further.now in
     let i = c.loop-block.block-index in
-    let x = c.to-be-bytes.result in
-    let n : length x ≡ 8 = ap length c.to-be-bytes.ensures in (
-      block_more (head c.args.settings.now c.args.number c.args.index c.args.first.now) (said c.loop-block.message) (said c.push.new.self) x bs i c.loop-block-test.true c.loop-block.invariant.0 c.to-be-bytes.ensures c.push.ensures.value,
+    let x = c.to_be_bytes.result in
+    let n : length x ≡ 8 = ap length c.to_be_bytes.ensures in (
+      block_more (head c.args.settings.now c.args.number c.args.index c.args.first.now) (said c.loop-block.message) (said c.push.new.self) x bs i c.loop-block-test.true c.loop-block.invariant.0 c.to_be_bytes.ensures c.push.ensures.value,
       omega (arith, c.push.ensures.len, n, c.loop-block.invariant.1),
     )
 

@@ -10,10 +10,10 @@ returns g c =
     let settings = c.args.settings.now in
     let slip = c.args.slip.now in
     let tagged = g.A.Authenticator.tagged c.args.authenticator.now in
-    let whole : take 64 c.as-slice.result.now ≡ c.as-slice.result.now =
-    take_all 64 c.as-slice.result.now (omega (arith, c.as-slice.ensures.few)) in
-    let said : c.as-slice.result.now ≡ message settings c.args.number (index_for slip.subclass c.args.index) slip.first (further_of slip) =
-    c.as-slice.ensures.value ∙ c.message-of-message.ensures
-    ∙ (λ i. message settings c.args.number (c.index-for-index.ensures i) slip.first (c.further.ensures.value i)) in
-    c.from-be-bytes.ensures
-    ∙ ap front (c.tag-tag.ensures ∙ (λ i. tagged (c.nonce-for.ensures i) ((whole ∙ said) i)))
+    let whole : take 64 c.as_slice.result.now ≡ c.as_slice.result.now =
+    take_all 64 c.as_slice.result.now (omega (arith, c.as_slice.ensures.few)) in
+    let said : c.as_slice.result.now ≡ message settings c.args.number (index_for slip.subclass c.args.index) slip.first (further_of slip) =
+    c.as_slice.ensures.value ∙ c.message_of-message.ensures
+    ∙ (λ i. message settings c.args.number (c.index_for-index.ensures i) slip.first (c.further.ensures.value i)) in
+    c.from_be_bytes.ensures
+    ∙ ap front (c.tag-tag.ensures ∙ (λ i. tagged (c.nonce_for.ensures i) ((whole ∙ said) i)))

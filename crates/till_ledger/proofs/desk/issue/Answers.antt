@@ -11,10 +11,10 @@ returns-in-Ok g c =
     let found = c.in-Some.ensures.found in
     record {
       did = λ s kept writes.
-          issued_performed t s kept writes till c.issue.new.self (vec_items c.args.hand.now) (vec_items c.take-from.new.hand) o refl c.in-Some.drawn found.0
+          issued_performed t s kept writes till c.issue.new.self (vec_items c.args.hand.now) (vec_items c.take_from.new.hand) o refl c.in-Some.drawn found.0
           c.in-Ok.length _ c.issue.new.slip c.in-Ok.ensures.answer c.in-Ok.ensures.after c.in-Ok.ensures.bytes found.1;
       same = issue_same till c.issue.new.self _ o.sale c.in-Ok.ensures.after;
-      capacity = c.take-from.ensures.capacity;
+      capacity = c.take_from.ensures.capacity;
     }
 
 pub returns-in-Err : goal.returns-in-Err
@@ -26,7 +26,7 @@ returns-in-Err g c =
     record {
       did = λ s kept writes.
           unissued_performed t s kept writes till c.issue.new.self (vec_items c.args.hand.now) (vec_items c.put.new.hand) o refl c.in-Some.drawn found.0
-          c.in-Err.refused (vec_items c.take-from.new.hand) c.in-Err.ensures.answer c.in-Err.ensures.after found.1 c.put.ensures.gains;
+          c.in-Err.refused (vec_items c.take_from.new.hand) c.in-Err.ensures.answer c.in-Err.ensures.after found.1 c.put.ensures.gains;
       same = issue_same till c.issue.new.self _ o.sale c.in-Err.ensures.after;
-      capacity = c.put.ensures.capacity ∙ c.take-from.ensures.capacity;
+      capacity = c.put.ensures.capacity ∙ c.take_from.ensures.capacity;
     }

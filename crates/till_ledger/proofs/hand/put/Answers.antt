@@ -8,6 +8,6 @@ returns c =
     let ds = vec_items c.args.hand.now in
     let d = c.args.drawn in
     record {
-      gains = subst (λ es. Gains d.number ds es) (sym c.push-reserved.ensures.items) (gains_push ds d.number d refl);
-      capacity = c.push-reserved.ensures.capacity;
+      gains = subst (λ es. Gains d.number ds es) (sym c.push_reserved.ensures.items) (gains_push ds d.number d refl);
+      capacity = c.push_reserved.ensures.capacity;
     }

@@ -9,17 +9,17 @@ loop-i-init g c =
     let e : length c.args.widths.now ≡ g.row.N = c.requires.long in
     behind_none c.args.widths.now (replicate g.row.N 0) c.args.word g.row.N (length-replicate {A = ℕ} g.row.N 0 ∙ sym c.requires.long) (omega arith)
 
-pub overflow-shl-fields : goal.overflow-shl-fields
-overflow-shl-fields g c = omega (arith, one_of c.args.widths.now (c.loop-i.i - 1))
+pub overflow_shl-fields : goal.overflow_shl-fields
+overflow_shl-fields g c = omega (arith, one_of c.args.widths.now (c.loop-i.i - 1))
 
-pub nonzero-rem-fields : goal.nonzero-rem-fields
-nonzero-rem-fields g c =
+pub nonzero_rem-fields : goal.nonzero_rem-fields
+nonzero_rem-fields g c =
     let w = get_or c.args.widths.now (c.loop-i.i - 1) 0 in
     let h : w < 64 = omega (arith, one_of c.args.widths.now (c.loop-i.i - 1)) in
     omega (arith, one_shl w 64 h, pow_pos w)
 
-pub overflow-shr-left : goal.overflow-shr-left
-overflow-shr-left g c = omega (arith, one_of c.args.widths.now (c.loop-i.i - 1))
+pub overflow_shr-left : goal.overflow_shr-left
+overflow_shr-left g c = omega (arith, one_of c.args.widths.now (c.loop-i.i - 1))
 
 pub loop-i-preserved : goal.loop-i-preserved
 loop-i-preserved g c =

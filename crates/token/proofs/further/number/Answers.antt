@@ -4,8 +4,8 @@ use Rattle.token.proofs.Tariffs.{under_at}
 use Rattle.token.proofs.Numbered.{turned_here, turned_more, turned_all, block_at}
 use Rattle.token.proofs.further.number.Goals as goal
 
-pub overflow-add-parts : goal.overflow-add-parts
-overflow-add-parts c =
+pub overflow_add-parts : goal.overflow_add-parts
+overflow_add-parts c =
     let old = c.args.parts.now in
     let i = c.loop-i.i in
     omega (arith, turned_here numbered old c.loop-i.parts i (omega arith) c.loop-i.invariant, under_at (2 ^ 59) old i (omega arith) c.requires.small, c.loop-i.invariant.long, c.requires.few)

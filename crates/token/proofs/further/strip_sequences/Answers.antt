@@ -10,8 +10,8 @@ loop-block-preserved c =
     let new = c.loop-block.blocks in
     let i = c.loop-block.block-index in
     let here = turned_here (map part_of) old new i (omega arith) c.loop-block.invariant in
-    let v = c.part-of.result in
-    let is : part_of (get_or old i 0) ≡ v = ap part_of (sym here) ∙ sym c.part-of.ensures in
+    let v = c.part_of.result in
+    let is : part_of (get_or old i 0) ≡ v = ap part_of (sym here) ∙ sym c.part_of.ensures in
     let e : map part_of (drop i old) ≡ v ∷ map part_of (drop (i + 1) old) =
     at_drop_more (map part_of) old i 0 (omega arith) ∙ ap (λ (x : ℕ). x ∷ map part_of (drop (i + 1) old)) is in
     turned_more (map part_of) old new i v (omega arith) e c.loop-block.invariant

@@ -6,7 +6,7 @@ use Rattle.token.proofs.rate_layout.second_fields.Goals as goal
 
 pub unpack-requires : goal.unpack-requires
 unpack-requires c =
-    let w = c.second-widths.ensures in
+    let w = c.second_widths.ensures in
     let e = second_59 c.args.size c.requires in
     (omega arith, (omega arith, (ap length w, rw w (omega (arith, e)))))
 
@@ -14,7 +14,7 @@ pub returns : goal.returns
 returns c =
     let s = c.args.size in
     let n = c.args.word in
-    let e : c.unpack.result ≡ unpacked (second_part_widths s) n = c.unpack.ensures ∙ ap (λ (ws : List ℕ). unpacked ws n) c.second-widths.ensures in
+    let e : c.unpack.result ≡ unpacked (second_part_widths s) n = c.unpack.ensures ∙ ap (λ (ws : List ℕ). unpacked ws n) c.second_widths.ensures in
     let k = wide s c.requires in
     let b = part_below (second_part_widths s) n in
     record { value = e; small = rw e (omega (arith, b 0, k), (omega (arith, b 1, k), (omega (arith, b 2, k), (omega (arith, b 3, k), tt)))) }

@@ -4,20 +4,20 @@ use Rattle.token.specs.RatePrices.{second_part_fields}
 use Rattle.token.proofs.Fitting.{size_small, fit_second, second_59}
 use Rattle.token.proofs.rate_layout.second_part.Goals as goal
 
-pub second-widths-requires : goal.second-widths-requires
-second-widths-requires c = size_small c.args.t.now c.args.size c.requires
+pub second_widths-requires : goal.second_widths-requires
+second_widths-requires c = size_small c.args.t.now c.args.size c.requires
 
 pub pack-requires : goal.pack-requires
 pack-requires c =
     let s = c.args.size in
-    let w = c.second-widths.ensures in
+    let w = c.second_widths.ensures in
     let e = second_59 s (size_small c.args.t.now s c.requires) in
     record { fits = rw w (fit_second c.args.t.now s c.requires); room = rw w (omega (arith, e)) }
 
 pub returns : goal.returns
 returns c =
     let s = c.args.size in
-    let w = c.second-widths.ensures in
+    let w = c.second_widths.ensures in
     let e = second_59 s (size_small c.args.t.now s c.requires) in
     record {
       value = c.pack.ensures.value ∙ ap (λ (ws : List ℕ). packed ws (second_part_fields c.args.t.now)) w;

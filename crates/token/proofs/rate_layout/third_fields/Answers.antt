@@ -6,7 +6,7 @@ use Rattle.token.proofs.rate_layout.third_fields.Goals as goal
 
 pub unpack-requires : goal.unpack-requires
 unpack-requires c =
-    let w = c.third-widths.ensures in
+    let w = c.third_widths.ensures in
     let e = third_59 c.args.size c.requires in
     (omega arith, (omega arith, (ap length w, rw w (omega (arith, e)))))
 
@@ -14,7 +14,7 @@ pub returns : goal.returns
 returns c =
     let s = c.args.size in
     let n = c.args.word in
-    let e : c.unpack.result ≡ unpacked (third_part_widths s) n = c.unpack.ensures ∙ ap (λ (ws : List ℕ). unpacked ws n) c.third-widths.ensures in
+    let e : c.unpack.result ≡ unpacked (third_part_widths s) n = c.unpack.ensures ∙ ap (λ (ws : List ℕ). unpacked ws n) c.third_widths.ensures in
     let k = wide s c.requires in
     let b = part_below (third_part_widths s) n in
     record { value = e; small = rw e (omega (arith, b 0, k), (omega (arith, b 1, k), tt)) }

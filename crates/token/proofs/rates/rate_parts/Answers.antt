@@ -9,6 +9,6 @@ returns c =
     let t = c.args.t.now in
     let s = c.args.size in
     let f : fits t s ≡ true = search rules in
-    let v = written_is t s c.first-part.result c.second-part.result c.third-part.result c.part-count.result f
-    c.part-count.ensures c.first-part.ensures.value c.second-part.ensures.value c.third-part.ensures.value in
+    let v = written_is t s c.first_part.result c.second_part.result c.third_part.result c.part_count.result f
+    c.part_count.ensures c.first_part.ensures.value c.second_part.ensures.value c.third_part.ensures.value in
     record { value = v; back = read_back t s _ v f }

@@ -10,8 +10,8 @@ step bs i h =
     at_drop_more sequenced bs i 0 h
     ∙ ap (λ (k : ℕ). eqb (sequence_of (get_or bs i 0)) k && sequenced (drop (i + 1) bs)) (length-drop (i + 1) bs ∙ omega arith)
 
-pub returns-then-sequence-of-further : goal.returns-then-sequence-of-further
-returns-then-sequence-of-further c = let s = step c.args.further.now c.loop-i.i c.loop-i-test.true in
+pub returns-then-sequence_of-further : goal.returns-then-sequence_of-further
+returns-then-sequence_of-further c = let s = step c.args.further.now c.loop-i.i c.loop-i-test.true in
     grind (arith, nat_tests)
 
 pub loop-i-preserved : goal.loop-i-preserved

@@ -11,4 +11,4 @@ returns c =
     let v = c.args.v.now in
     let x = v.enciphered % 2 ^ bits v.width in
     c.decipher.ensures.value ∙ ap (λ (f : Ff1). ff1_deciphered f v.width x) c.keyed.ensures
-    ∙ ap (λ (k : List ℕ). ff1_back 2 (bits v.width) k (bytes_of 8 v.meter) x) c.to-be-bytes.ensures
+    ∙ ap (λ (k : List ℕ). ff1_back 2 (bits v.width) k (bytes_of 8 v.meter) x) c.to_be_bytes.ensures

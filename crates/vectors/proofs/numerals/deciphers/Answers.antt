@@ -12,4 +12,4 @@ returns-in-Some c =
     let b = room_for v.radix v.digits tweak in
     told b (ff1_back v.radix v.digits (key_of c.new-aes.result) tweak (v.enciphered % v.radix ^ v.digits)) c.in-Some.n v.plain c.in-Some.ensures
     ∙ ap (λ (k : List ℕ). cond b (eqb (ff1_back v.radix v.digits k tweak (v.enciphered % v.radix ^ v.digits)) v.plain) false)
-    (ap key_of c.new-aes.ensures ∙ c.to-be-bytes.ensures)
+    (ap key_of c.new-aes.ensures ∙ c.to_be_bytes.ensures)

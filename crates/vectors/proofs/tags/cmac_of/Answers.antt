@@ -9,5 +9,5 @@ pub returns : goal.returns
 returns c =
     let nonce = c.args.nonce.now in
     let m = take 64 c.args.message.now in
-    c.block-of.ensures
-    ∙ ap block_of (c.tag.ensures ∙ ap (λ (a : Cmac). cmac_tag a nonce m) c.keyed.ensures ∙ ap (λ (k : List ℕ). cmac k (nonce ++ m)) c.to-be-bytes.ensures)
+    c.block_of.ensures
+    ∙ ap block_of (c.tag.ensures ∙ ap (λ (a : Cmac). cmac_tag a nonce m) c.keyed.ensures ∙ ap (λ (k : List ℕ). cmac k (nonce ++ m)) c.to_be_bytes.ensures)

@@ -24,5 +24,5 @@ returns c =
       bits = λ i h. moved_bits n by i left c.args.also c.if-also.all c.requires.0 c.if-by-gt126.false c.requires.1 h e;
     })
 
-pub nonzero-rem-result : goal.nonzero-rem-result
-nonzero-rem-result c = let f : (1 * 2 ^ c.args.left) % 2 ^ 128 ≡ 2 ^ c.args.left = one_shl c.args.left 128 (omega arith) in rw f (pow_pos c.args.left)
+pub nonzero_rem-result : goal.nonzero_rem-result
+nonzero_rem-result c = let f : (1 * 2 ^ c.args.left) % 2 ^ 128 ≡ 2 ^ c.args.left = one_shl c.args.left 128 (omega arith) in rw f (pow_pos c.args.left)

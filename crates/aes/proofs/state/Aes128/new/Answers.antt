@@ -17,19 +17,19 @@ loop-n-init c =
 pub loop-n-preserved : goal.loop-n-preserved
 loop-n-preserved c =
     let key = c.args.key.now in
-    let r = c.next-key-k.result in
+    let r = c.next_key-k.result in
     let n = c.loop-n.n in
     let four : length r ≡ 4 = search rules in
     let fits : (i : ℕ) → get_or r i 0 < 2 ^ 32 = search rules in
-    let e = key_step key n c.loop-n.constant c.loop-n.k r c.loop-n.invariant.1 c.loop-n.invariant.2 c.next-key-k.ensures in (
+    let e = key_step key n c.loop-n.constant c.loop-n.k r c.loop-n.invariant.1 c.loop-n.invariant.2 c.next_key-k.ensures in (
       filled_more (λ n. packed (round_key key n)) [] 11 _ _ _ (omega arith) c.loop-n.invariant.0 (words_are key (n + 1) r four fits e),
       e,
-      constant_step n c.loop-n.constant c.times-x-constant.result c.loop-n.invariant.2 c.times-x-constant.ensures,
+      constant_step n c.loop-n.constant c.times_x-constant.result c.loop-n.invariant.2 c.times_x-constant.ensures,
     )
 
-pub invariant-of-result : goal.invariant-of-result
+pub invariant_of-result : goal.invariant_of-result
 unfolding expanded
-invariant-of-result c = (filled_all (λ n. packed (round_key c.args.key.now n)) [] 11 _ (c.loop-n.n + 1) (omega arith) c.loop-n.invariant.0, tt)
+invariant_of-result c = (filled_all (λ n. packed (round_key c.args.key.now n)) [] 11 _ (c.loop-n.n + 1) (omega arith) c.loop-n.invariant.0, tt)
 
 pub returns : goal.returns
 returns c = made _ _ _

@@ -6,5 +6,5 @@ use Rattle.aes.proofs.state.Aes128.new.Given as goal
 
 abbrev pub invariant-loop-n : goal.invariant-loop-n
 invariant-loop-n l =
-    Filled (λ n. packed (round_key l.key n)) [] 11 l.round-keys (l.n + 1)
+    Filled (λ n. packed (round_key l.key n)) [] 11 l.round_keys (l.n + 1)
     × (unpacked l.k ≡ round_key l.key l.n) × (l.constant ≡ round_constant l.n)

@@ -5,5 +5,5 @@ use Rattle.cmac.proofs.state.Cmac.mac.Goals as goal
 
 pub returns : goal.returns
 returns c =
-    tag_is (mac_key c.args.self.now) c.args.message.now _ c.chain-y.result c.last-block-last.result c.apply.result c.to-be-bytes.result
-    (omega arith) c.chain-y.ensures c.last-block-last.ensures c.apply.ensures c.to-be-bytes.ensures
+    tag_is (mac_key c.args.self.now) c.args.message.now _ c.chain-y.result c.last_block-last.result c.apply.result c.to_be_bytes.result
+    (omega arith) c.chain-y.ensures c.last_block-last.ensures c.apply.ensures c.to_be_bytes.ensures

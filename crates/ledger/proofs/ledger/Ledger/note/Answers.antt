@@ -14,26 +14,26 @@ agreed g m = suite_at g.C.Cipher.enciphered g.C.Cipher.deciphered g.A.Authentica
 pub returns : goal.returns
 returns g c =
     let m = c.args.self.now.meter in
-    let done = c.perform-at-answer.new.meter in
-    let last = c.writes-left-writes.new.self in
+    let done = c.perform_at-answer.new.meter in
+    let last = c.writes_left-writes.new.self in
     let kept = g.S.Store.kept in
     let writes = g.S.Store.writes in
-    let x = c.perform-at-answer.result in
-    let asked : last ≡ done = c.writes-left-writes.ensures.same in
+    let x = c.perform_at-answer.result in
+    let asked : last ≡ done = c.writes_left-writes.ensures.same in
     let only : last ≡ with_store m last.parts.store =
-    asked ∙ c.perform-at-answer.ensures.same ∙ ap (λ n. with_store m n.parts.store) (sym asked) in
-    let left : c.writes-left-writes.result ≡ writes last.parts.store =
-    c.writes-left-writes.ensures.value ∙ ap (λ n. writes n.parts.store) (sym asked) in
-    let noted : vec_items c.push-reserved.new.self ≡ vec_items c.args.self.now.lines ++ line_of c.args.call x (writes last.parts.store) ∷ [] =
-    c.push-reserved.ensures.items ∙ (λ i. vec_items c.args.self.now.lines ++ line_of c.args.call x (left i) ∷ []) in
+    asked ∙ c.perform_at-answer.ensures.same ∙ ap (λ n. with_store m n.parts.store) (sym asked) in
+    let left : c.writes_left-writes.result ≡ writes last.parts.store =
+    c.writes_left-writes.ensures.value ∙ ap (λ n. writes n.parts.store) (sym asked) in
+    let noted : vec_items c.push_reserved.new.self ≡ vec_items c.args.self.now.lines ++ line_of c.args.call x (writes last.parts.store) ∷ [] =
+    c.push_reserved.ensures.items ∙ (λ i. vec_items c.args.self.now.lines ++ line_of c.args.call x (left i) ∷ []) in
     let did : Performed (agreed g m) c.args.call x (kept m.parts.store) (writes m.parts.store) (kept last.parts.store) (writes last.parts.store) =
-    subst (λ n. Performed (agreed g m) c.args.call x (kept m.parts.store) (writes m.parts.store) (kept n.parts.store) (writes n.parts.store)) (sym asked) c.perform-at-answer.ensures.did in
+    subst (λ n. Performed (agreed g m) c.args.call x (kept m.parts.store) (writes m.parts.store) (kept n.parts.store) (writes n.parts.store)) (sym asked) c.perform_at-answer.ensures.did in
     record {
       did = did;
       noted = noted;
       same = only;
       opening = (refl, refl);
-      capacity = c.push-reserved.ensures.capacity;
+      capacity = c.push_reserved.ensures.capacity;
       lawful = λ before new.
           continued (agreed g m) (agreed g last) _ _ (vec_items c.args.self.now.lines) _ (kept m.parts.store) (writes m.parts.store) c.args.call x _ (writes last.parts.store)
           (ap (agreed g) only) noted

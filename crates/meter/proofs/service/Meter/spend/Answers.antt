@@ -6,13 +6,13 @@ pub returns-then-amount-eq0 : goal.returns-then-amount-eq0
 unfolding spend_judged
 returns-then-amount-eq0 g c = record { answer = search rules; after = search rules }
 
-pub returns-in-default : goal.returns-in-default
+pub returns-in_default : goal.returns-in_default
 unfolding spend_judged
-returns-in-default g c = record { answer = search rules; after = search rules }
+returns-in_default g c = record { answer = search rules; after = search rules }
 
-pub returns-in-err-keep : goal.returns-in-err-keep
+pub returns-in_err-keep : goal.returns-in_err-keep
 unfolding spend_judged
-returns-in-err-keep g c = record { answer = search rules; after = search rules }
+returns-in_err-keep g c = record { answer = search rules; after = search rules }
 
 pub returns : goal.returns
 unfolding spend_judged

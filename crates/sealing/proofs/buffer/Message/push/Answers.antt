@@ -6,9 +6,9 @@ pub returns : goal.returns
 returns c =
     let n = c.args.self.now.len in
     let xs = c.args.self.now.bytes in
-    let ys = c.copy-from-slice.new.self in
+    let ys = c.copy_from_slice.new.self in
     let more = c.args.more.now in
-    let same : ys ≡ more = c.copy-from-slice.ensures.after in
+    let same : ys ≡ more = c.copy_from_slice.ensures.after in
     let room : n ≤ length xs = search rules in
     let e : n + length more ≡ n + length ys = ap (λ (l : List ℕ). n + length l) (sym same) in
     record {

@@ -11,4 +11,4 @@ returns c =
     let groups = c.args.self.now.blocks.groups in
     let four : length words ≡ 4 = search rules in
     let cut : c.clamp.result - 1 - 0 ≡ min (groups - 1) 3 = omega (arith, c.clamp.ensures) in
-    c.rate-prices.ensures.value ∙ ap (λ ps. found (tariff_in ps) RatePrices) (parts_are words (c.clamp.result - 1 - 0) groups four cut)
+    c.rate_prices.ensures.value ∙ ap (λ ps. found (tariff_in ps) RatePrices) (parts_are words (c.clamp.result - 1 - 0) groups four cut)

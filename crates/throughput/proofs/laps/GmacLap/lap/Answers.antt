@@ -5,5 +5,5 @@ use Rattle.throughput.proofs.laps.GmacLap.lap.Goals as goal
 
 pub returns : goal.returns
 returns c =
-    c.block-of.ensures
-    ∙ ap block_of (c.tag.ensures ∙ ap (λ (nonce : List ℕ). gmac_tag c.args.self.now nonce (replicate 64 0)) c.nonce-of.ensures)
+    c.block_of.ensures
+    ∙ ap block_of (c.tag.ensures ∙ ap (λ (nonce : List ℕ). gmac_tag c.args.self.now nonce (replicate 64 0)) c.nonce_of.ensures)

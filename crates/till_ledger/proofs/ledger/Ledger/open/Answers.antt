@@ -19,17 +19,17 @@ keeps g settings c a = record {
 pub returns : goal.returns
 returns g c =
     let m = c.args.meter in
-    let last = c.writes-left-writes.new.self in
+    let last = c.writes_left-writes.new.self in
     let till = c.args.till in
     let kept = g.S.Store.kept in
     let writes = g.S.Store.writes in
     let t = till_suite g.C.Cipher.enciphered g.C.Cipher.deciphered g.A.Authenticator.tagged till in
     let agreed = suite_at {S = g.row.S.Denot} g.C.Cipher.enciphered g.C.Cipher.deciphered g.A.Authenticator.tagged in
-    let same : last ≡ m = c.writes-left-writes.ensures.same ∙ c.read-kept.ensures.same in
+    let same : last ≡ m = c.writes_left-writes.ensures.same ∙ c.read-kept.ensures.same in
     let had : c.read-kept.result ≡ kept m.parts.store = c.read-kept.ensures.value in
-    let left : c.writes-left-writes.result ≡ writes m.parts.store =
-    c.writes-left-writes.ensures.value ∙ ap (λ n. writes n.parts.store) c.read-kept.ensures.same in
-    let start : World = record { kept = c.read-kept.result; writes = c.writes-left-writes.result; counts = c.counts.result; index = c.index.result; hand = [] } in
+    let left : c.writes_left-writes.result ≡ writes m.parts.store =
+    c.writes_left-writes.ensures.value ∙ ap (λ n. writes n.parts.store) c.read-kept.ensures.same in
+    let start : World = record { kept = c.read-kept.result; writes = c.writes_left-writes.result; counts = c.counts.result; index = c.index.result; hand = [] } in
     let is : start ≡ world_of kept writes till [] m =
     λ i. record { kept = had i; writes = left i; counts = c.counts.ensures i; index = c.index.ensures i; hand = [] } in
     let at_last : world_of kept writes till [] m ≡ world_of kept writes till c.new.result.items last =

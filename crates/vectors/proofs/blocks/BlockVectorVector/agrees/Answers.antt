@@ -8,4 +8,4 @@ pub returns : goal.returns
 returns c =
     let v = c.args.self.now in
     ap (λ (n : ℕ). eqb n v.enciphered)
-    (c.apply.ensures ∙ ap (λ (a : Aes128). aes_block (key_of a) v.block) c.new.ensures ∙ ap (λ (k : List ℕ). aes_block k v.block) c.to-be-bytes.ensures)
+    (c.apply.ensures ∙ ap (λ (a : Aes128). aes_block (key_of a) v.block) c.new.ensures ∙ ap (λ (k : List ℕ). aes_block k v.block) c.to_be_bytes.ensures)

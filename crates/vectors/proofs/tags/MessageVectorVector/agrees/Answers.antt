@@ -10,5 +10,5 @@ returns c =
     let v = c.args.self.now in
     let m = v.message.now in
     ap (λ (n : ℕ). eqb n v.tag)
-    (c.block-of.ensures
-    ∙ ap block_of (c.mac.ensures ∙ ap (λ (a : Cmac). cmac (mac_key a) m) c.keyed-mac.ensures ∙ ap (λ (k : List ℕ). cmac k m) c.to-be-bytes.ensures))
+    (c.block_of.ensures
+    ∙ ap block_of (c.mac.ensures ∙ ap (λ (a : Cmac). cmac (mac_key a) m) c.keyed-mac.ensures ∙ ap (λ (k : List ℕ). cmac k m) c.to_be_bytes.ensures))

@@ -7,7 +7,7 @@ pub returns-then-n-self : goal.returns-then-n-self
 unfolding marked
 returns-then-n-self c = record {
   top = search rules;
-  told = raised c.args.self c.args.n c.moved-marks.result c.mark-count.result (omega arith) c.mark-count.ensures.value c.moved-marks.ensures.bits;
+  told = raised c.args.self c.args.n c.moved-marks.result c.mark_count.result (omega arith) c.mark_count.ensures.value c.moved-marks.ensures.bits;
 }
 
 pub returns-then-n-self-2 : goal.returns-then-n-self-2

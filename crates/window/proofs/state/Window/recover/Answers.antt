@@ -8,8 +8,8 @@ returns c =
     let h = c.args.self.now.highest in
     let from = c.first.result in
     let many = c.size.result in
-    let r = c.recover-in.result in
+    let r = c.recover_in.result in
     record {
-      value = is_recovered h from many c.args.low r c.first.ensures c.size.ensures c.recover-in.ensures.value;
-      only = recovers h from many c.args.low r c.first.ensures c.size.ensures (c.recover-in.ensures.only (omega arith));
+      value = is_recovered h from many c.args.low r c.first.ensures c.size.ensures c.recover_in.ensures.value;
+      only = recovers h from many c.args.low r c.first.ensures c.size.ensures (c.recover_in.ensures.only (omega arith));
     }
