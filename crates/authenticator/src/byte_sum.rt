@@ -1,7 +1,7 @@
 // The bench seal: the sum of all bytes of nonce and message.
 ghost use Rattle.std.specs.Prelude.{◌≡◌, ℕ, ◌*◌, ◌≤◌, length, take, sum};
 ghost use Rattle.authenticator.specs.Sum.{byte_sum, byte_sum_for};
-ghost use borrow.Author.Rules.{rules};
+ghost use Rattle.authenticator.specs.SumLaws.{byte_sum_sixteen, byte_sum_bytes};
 
 use crate::Authenticator;
 
@@ -36,9 +36,9 @@ impl Authenticator for ByteSum {
 
     ghost keyed = { byte_sum_for };
 
-    ghost sixteen = { unfold byte_sum in Prim.search rules };
+    ghost sixteen = { byte_sum_sixteen };
 
-    ghost bytes = { unfold byte_sum in Prim.search rules };
+    ghost bytes = { byte_sum_bytes };
 
     fn tag(&self, nonce: &[u8; 12], message: &[u8]) -> [u8; 16] {
         let [a, b, c, d] = (sum_of(nonce) + sum_of(counting_part(message))).to_be_bytes();

@@ -2,7 +2,7 @@
 ghost use Rattle.std.specs.Prelude.{◌≡◌, ℕ, ◌%◌, ◌^◌, ◌<◌};
 ghost use Rattle.cipher.specs.Widths.{bits};
 ghost use Rattle.cipher.specs.Clearing.{as_is, clear_for};
-ghost use Rattle.std.proofs.Common.{rules};
+ghost use Rattle.cipher.specs.ClearingLaws.{clear_below, clear_within, clear_undone};
 
 use crate::Cipher;
 use crate::width::Width;
@@ -29,11 +29,11 @@ impl Cipher for Clear {
 
     ghost keyed = { clear_for };
 
-    ghost below = { Prim.search rules };
+    ghost below = { clear_below };
 
-    ghost within = { Prim.search rules };
+    ghost within = { clear_within };
 
-    ghost undone = { Prim.search rules };
+    ghost undone = { clear_undone };
 
     fn encipher(&self, width: Width, n: u64) -> u64 {
         low_bits(width, n)

@@ -1,7 +1,7 @@
 // A store that never runs out of writes.
 ghost use Rattle.std.specs.Prelude.{◌≡◌};
 ghost use Rattle.store.specs.Plain.{plain_opening, plain_kept, plain_writes, plain_after};
-ghost use Rattle.std.proofs.Common.{rules};
+ghost use Rattle.store.specs.PlainLaws.{plain_holds, plain_most, plain_least};
 
 use crate::Store;
 use record::Record;
@@ -36,11 +36,11 @@ impl Store for PlainStore {
 
     ghost after = { plain_after };
 
-    ghost holds = { Prim.search rules };
+    ghost holds = { plain_holds };
 
-    ghost most = { Prim.search rules };
+    ghost most = { plain_most };
 
-    ghost least = { Prim.search rules };
+    ghost least = { plain_least };
 
     fn read(&mut self) -> Record {
         self.last
