@@ -18,7 +18,7 @@ check_group-requires c =
 
 pub returns-in_err-check_group : goal.returns-in_err-check_group
 returns-in_err-check_group c =
-    let p = err_from_is_err_and c.from-residual.result c.from-residual.ensures.1 in
+    let p = err_from_is_err_and c.from_residual.result c.from_residual.ensures.1 in
     rw (p.1, p.2) (one_unsealed tt c.args.text.now c.loop-i.i c.loop-i.before _ c.requires c.loop-i-test.true c.loop-i.invariant.1 c.in_err-check_group.ensures)
 
 pub loop-i-preserved : goal.loop-i-preserved

@@ -23,9 +23,9 @@ returns-in_err-check_groups c =
     let t = c.args.text.now in
     let g = sym c.if-not-is_grouped.ensures in
     let d = sym c.if-not-all_digits.ensures in
-    let p = err_from_is_err_and c.from-residual.result c.from-residual.ensures.1 in
+    let p = err_from_is_err_and c.from_residual.result c.from_residual.ensures.1 in
     let w = was_err (all_sealed t) CheckDigit _ tt c.in_err-check_groups.ensures in
-    let k : c.from-residual.result ≡ Err CheckDigit = p.1 ∙ ap Err (p.2 ∙ w.1) in
+    let k : c.from_residual.result ≡ Err CheckDigit = p.1 ∙ ap Err (p.2 ∙ w.1) in
     let s = w.0 in
     record { value = rw (k, g, d, s); bounds = rw k tt }
 
@@ -36,9 +36,9 @@ returns-in_err-words c =
     let g = sym c.if-not-is_grouped.ensures in
     let d = sym c.if-not-all_digits.ensures in
     let s = (was_ok (all_sealed t) CheckDigit tt _ c.in_ok-check_groups.ensures).0 in
-    let p = err_from_is_err_and c.from-residual-in_err-words.result c.from-residual-in_err-words.ensures.1 in
+    let p = err_from_is_err_and c.from_residual-in_err-words.result c.from_residual-in_err-words.ensures.1 in
     let w = was_err (all_blocks t) NoBlock _ (words_in t) c.in_err-words.ensures in
-    let k : c.from-residual-in_err-words.result ≡ Err NoBlock = p.1 ∙ ap Err (p.2 ∙ w.1) in
+    let k : c.from_residual-in_err-words.result ≡ Err NoBlock = p.1 ∙ ap Err (p.2 ∙ w.1) in
     let b = w.0 in
     record { value = rw (k, g, d, s, b); bounds = rw k tt }
 

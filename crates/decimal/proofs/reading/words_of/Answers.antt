@@ -10,7 +10,7 @@ use Rattle.decimal.proofs.reading.words_of.Goals as goal
 
 pub returns-in_err-words : goal.returns-in_err-words
 returns-in_err-words c =
-    let p = err_from_is_err_and c.from-residual.result c.from-residual.ensures.1 in
+    let p = err_from_is_err_and c.from_residual.result c.from_residual.ensures.1 in
     rw (p.1, p.2) (one_unblocked c.args.text.now c.loop-i.i _ c.loop-i-test.true c.in_err-words.ensures)
 
 pub loop-i-preserved : goal.loop-i-preserved
