@@ -3,7 +3,7 @@ use Rattle.sale.proofs.Selling.{with_class, unserved, uncoded, sold}
 use Rattle.sale.proofs.checking.ready_for.Goals as goal
 
 pub returns-in_err-subclass : goal.returns-in_err-subclass
-returns-in_err-subclass c = unserved c.args.settings.now c.args.sale.now _ c.from-residual.ensures (sym c.of.ensures ∙ c.in_err-subclass.was)
+returns-in_err-subclass c = unserved c.args.settings.now c.args.sale.now _ c.from_residual.ensures (sym c.of.ensures ∙ c.in_err-subclass.was)
 
 pub returns-then-not-is_coded : goal.returns-then-not-is_coded
 returns-then-not-is_coded c = uncoded c.args.settings.now c.args.sale.now (sym c.if-not-is_coded.ensures)
@@ -11,7 +11,7 @@ returns-then-not-is_coded c = uncoded c.args.settings.now c.args.sale.now (sym c
 pub returns-in_err-blocks : goal.returns-in_err-blocks
 returns-in_err-blocks c =
     let k = c.in_ok-subclass.subclass in
-    c.from-residual-in_err-blocks.ensures ∙ ap (with_class k) (sym c.in_err-blocks.was)
+    c.from_residual-in_err-blocks.ensures ∙ ap (with_class k) (sym c.in_err-blocks.was)
     ∙ sold c.args.settings.now c.args.sale.now k c.blocks_for.result (sym c.of.ensures ∙ c.in_ok-subclass.was) (sym c.if-not-is_coded.ensures) c.blocks_for.ensures
 
 pub returns : goal.returns

@@ -22,7 +22,7 @@ returns-in_err-worth g c =
     let s = agreed g m in
     let store = m.parts.store in
     let e = c.in_err-worth.field-0.0 in
-    let p = err_from_is_err_and c.from-residual.result c.from-residual.ensures.1 in
+    let p = err_from_is_err_and c.from_residual.result c.from_residual.ensures.1 in
     let j : Err e ≡ judged_by s (g.S.Store.kept store) text =
     c.in_err-worth.ensures ∙ ap (λ r. judged_by s r text) c.read-kept.ensures.value in
     let k = refused_at s (g.S.Store.kept store) (g.S.Store.writes store) text e j in
@@ -39,7 +39,7 @@ returns-in_err-keep g c =
     let store = m.parts.store in
     let writes = g.S.Store.writes in
     let w = c.in_ok-worth.worth in
-    let p = err_from_is_err_and c.from-residual-in_err-keep.result c.from-residual-in_err-keep.ensures.1 in
+    let p = err_from_is_err_and c.from_residual-in_err-keep.result c.from_residual-in_err-keep.ensures.1 in
     let j : Ok w ≡ judged_by s (g.S.Store.kept store) text =
     c.in_ok-worth.ensures ∙ ap (λ r. judged_by s r text) c.read-kept.ensures.value in
     let none = was_err {X = Unit {0}} (ltb 0 (writes c.read-kept.new.self)) NoWrites c.in_err-keep.field-0.0 tt c.in_err-keep.ensures.answer in
