@@ -26,7 +26,7 @@ pub fn judge<C: Cipher, A: Authenticator>(
     kept: Record,
     text: &[u8],
 ) -> Result<Worth, Refusal>
-    ensures { result ≡ judged_by (suite settings.now (C.Cipher.enciphered cipher.now) (C.Cipher.deciphered cipher.now) (A.Authenticator.tagged authenticator.now)) kept text.now }
+    ensures { result ≡ judged_by (suite settings.now (C.enciphered cipher.now) (C.deciphered cipher.now) (A.tagged authenticator.now)) kept text.now }
 {
     let blocks = read_blocks(text)?;
     let slip = open_blocks(cipher, &blocks)?;

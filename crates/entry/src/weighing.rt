@@ -31,7 +31,7 @@ fn is_authentic<A: Authenticator>(
     slip: &Opened,
     number: u32,
 ) -> bool
-    ensures { result ≡ authentic settings.now (tagged authenticator.now) index slip.now number }
+    ensures { result ≡ authentic settings.now (A.tagged authenticator.now) index slip.now number }
 {
     slip.first.tmac == tag_field(authenticator, settings, number, index, slip)
 }
@@ -54,7 +54,7 @@ fn reckon<A: Authenticator>(
     slip: &Opened,
     number: u32,
 ) -> Result<Worth, Refusal>
-    ensures { result ≡ reckoned settings.now (tagged authenticator.now) kept slip.now number }
+    ensures { result ≡ reckoned settings.now (A.tagged authenticator.now) kept slip.now number }
 {
     if !is_authentic(settings, authenticator, kept.index, slip, number) {
         return Err(Refusal::WrongTag);
@@ -85,7 +85,7 @@ pub(crate) fn weigh<A: Authenticator>(
     kept: Record,
     slip: &Opened,
 ) -> Result<Worth, Refusal>
-    ensures { result ≡ weighed settings.now (tagged authenticator.now) kept slip.now }
+    ensures { result ≡ weighed settings.now (A.tagged authenticator.now) kept slip.now }
 {
     if !is_raisable(slip.subclass, kept.index) {
         return Err(Refusal::IndexFull);

@@ -18,10 +18,10 @@ impl<S: Store, C: Cipher, A: Authenticator> Ledger<S, C, A> {
     // A ledger in which nothing is noted yet. It keeps the law.
     pub fn open(meter: Meter<S, C, A>, heap: Global) -> Ledger<S, C, A>
         ensures meter { result.meter ≡ meter }
-        ensures opening { result.opening ≡ S.Store.kept meter.parts.store }
-        ensures writes { result.opening_writes ≡ S.Store.writes meter.parts.store }
+        ensures opening { result.opening ≡ S.kept meter.parts.store }
+        ensures writes { result.opening_writes ≡ S.writes meter.parts.store }
         ensures journal { journal_of result ≡ [] }
-        ensures lawful { Lawful (suite_at C.Cipher.enciphered C.Cipher.deciphered A.Authenticator.tagged result.meter) result (S.Store.kept result.meter.parts.store) (S.Store.writes result.meter.parts.store) }
+        ensures lawful { Lawful (suite_at C.enciphered C.deciphered A.tagged result.meter) result (S.kept result.meter.parts.store) (S.writes result.meter.parts.store) }
     {
         let mut meter = meter;
         let opening = meter.read();
@@ -37,11 +37,11 @@ impl<S: Store, C: Cipher, A: Authenticator> Ledger<S, C, A> {
     // Performs one call and notes it, in memory that is there already.
     pub(crate) fn note(&mut self, call: Call) -> Answer
         requires { vec_len self.old.lines < vec_capacity self.old.lines }
-        ensures did { Performed (suite_at C.Cipher.enciphered C.Cipher.deciphered A.Authenticator.tagged self.old.meter) call result (S.Store.kept self.old.meter.parts.store) (S.Store.writes self.old.meter.parts.store) (S.Store.kept self.new.meter.parts.store) (S.Store.writes self.new.meter.parts.store) }
-        ensures noted { journal_of self.new ≡ journal_of self.old ++ line_of call result (S.Store.writes self.new.meter.parts.store) ∷ [] }
+        ensures did { Performed (suite_at C.enciphered C.deciphered A.tagged self.old.meter) call result (S.kept self.old.meter.parts.store) (S.writes self.old.meter.parts.store) (S.kept self.new.meter.parts.store) (S.writes self.new.meter.parts.store) }
+        ensures noted { journal_of self.new ≡ journal_of self.old ++ line_of call result (S.writes self.new.meter.parts.store) ∷ [] }
         ensures same { self.new.meter ≡ with_store self.old.meter self.new.meter.parts.store }
         ensures opening { (self.new.opening ≡ self.old.opening) × (self.new.opening_writes ≡ self.old.opening_writes) }
-        ensures lawful { Lawful (suite_at C.Cipher.enciphered C.Cipher.deciphered A.Authenticator.tagged self.old.meter) self.old (S.Store.kept self.old.meter.parts.store) (S.Store.writes self.old.meter.parts.store) → Lawful (suite_at C.Cipher.enciphered C.Cipher.deciphered A.Authenticator.tagged self.new.meter) self.new (S.Store.kept self.new.meter.parts.store) (S.Store.writes self.new.meter.parts.store) }
+        ensures lawful { Lawful (suite_at C.enciphered C.deciphered A.tagged self.old.meter) self.old (S.kept self.old.meter.parts.store) (S.writes self.old.meter.parts.store) → Lawful (suite_at C.enciphered C.deciphered A.tagged self.new.meter) self.new (S.kept self.new.meter.parts.store) (S.writes self.new.meter.parts.store) }
         ensures capacity { vec_capacity self.new.lines ≡ vec_capacity self.old.lines }
     {
         let answer = perform_at(&mut self.meter, &call);
@@ -57,12 +57,12 @@ impl<S: Store, C: Cipher, A: Authenticator> Ledger<S, C, A> {
     // Performs one call and notes it. Want of memory is found before the call, where the journal has no room left, and leaves meter
     // and journal as they were.
     pub fn perform(&mut self, call: Call) -> Result<Answer, AllocError>
-        ensures did { IfOk result (λ answer. Performed (suite_at C.Cipher.enciphered C.Cipher.deciphered A.Authenticator.tagged self.old.meter) call answer (S.Store.kept self.old.meter.parts.store) (S.Store.writes self.old.meter.parts.store) (S.Store.kept self.new.meter.parts.store) (S.Store.writes self.new.meter.parts.store)) }
-        ensures noted { MatchResult result (λ answer. journal_of self.new ≡ journal_of self.old ++ line_of call answer (S.Store.writes self.new.meter.parts.store) ∷ []) (λ _. (journal_of self.new ≡ journal_of self.old) × (self.new.meter ≡ self.old.meter)) }
+        ensures did { IfOk result (λ answer. Performed (suite_at C.enciphered C.deciphered A.tagged self.old.meter) call answer (S.kept self.old.meter.parts.store) (S.writes self.old.meter.parts.store) (S.kept self.new.meter.parts.store) (S.writes self.new.meter.parts.store)) }
+        ensures noted { MatchResult result (λ answer. journal_of self.new ≡ journal_of self.old ++ line_of call answer (S.writes self.new.meter.parts.store) ∷ []) (λ _. (journal_of self.new ≡ journal_of self.old) × (self.new.meter ≡ self.old.meter)) }
         ensures memory { OnErr result (vec_capacity self.old.lines ≡ vec_len self.old.lines) }
         ensures same { self.new.meter ≡ with_store self.old.meter self.new.meter.parts.store }
         ensures opening { (self.new.opening ≡ self.old.opening) × (self.new.opening_writes ≡ self.old.opening_writes) }
-        ensures lawful { Lawful (suite_at C.Cipher.enciphered C.Cipher.deciphered A.Authenticator.tagged self.old.meter) self.old (S.Store.kept self.old.meter.parts.store) (S.Store.writes self.old.meter.parts.store) → Lawful (suite_at C.Cipher.enciphered C.Cipher.deciphered A.Authenticator.tagged self.new.meter) self.new (S.Store.kept self.new.meter.parts.store) (S.Store.writes self.new.meter.parts.store) }
+        ensures lawful { Lawful (suite_at C.enciphered C.deciphered A.tagged self.old.meter) self.old (S.kept self.old.meter.parts.store) (S.writes self.old.meter.parts.store) → Lawful (suite_at C.enciphered C.deciphered A.tagged self.new.meter) self.new (S.kept self.new.meter.parts.store) (S.writes self.new.meter.parts.store) }
     {
         self.lines.reserve(1)?;
         Ok(self.note(call))
@@ -70,7 +70,7 @@ impl<S: Store, C: Cipher, A: Authenticator> Ledger<S, C, A> {
 
     // The credit of the meter, in minor units.
     pub fn credit(&mut self) -> u32
-        ensures value { result ≡ (S.Store.kept self.old.meter.parts.store).credit }
+        ensures value { result ≡ (S.kept self.old.meter.parts.store).credit }
         ensures same { self.new ≡ self.old }
     {
         self.meter.credit()

@@ -21,10 +21,10 @@ pub fn run<S: Store, C: Cipher, A: Authenticator>(
 ) -> Result<Ledger<S, C, A>, Meter<S, C, A>>
     ensures calls { MatchResult result (λ l. calls_of (journal_of l) ≡ calls.items) (λ m. m ≡ meter) }
     ensures same { MatchResult result (λ l. l.meter ≡ with_store meter l.meter.parts.store) (λ m. m ≡ meter) }
-    ensures performed { MatchResult result (λ l. AllPerformed (suite_at C.Cipher.enciphered C.Cipher.deciphered A.Authenticator.tagged meter) (S.Store.kept meter.parts.store) (S.Store.writes meter.parts.store) (journal_of l) (S.Store.kept l.meter.parts.store) (S.Store.writes l.meter.parts.store)) (λ m. m ≡ meter) }
-    ensures opening { MatchResult result (λ l. (l.opening ≡ S.Store.kept meter.parts.store) × (l.opening_writes ≡ S.Store.writes meter.parts.store)) (λ m. m ≡ meter) }
+    ensures performed { MatchResult result (λ l. AllPerformed (suite_at C.enciphered C.deciphered A.tagged meter) (S.kept meter.parts.store) (S.writes meter.parts.store) (journal_of l) (S.kept l.meter.parts.store) (S.writes l.meter.parts.store)) (λ m. m ≡ meter) }
+    ensures opening { MatchResult result (λ l. (l.opening ≡ S.kept meter.parts.store) × (l.opening_writes ≡ S.writes meter.parts.store)) (λ m. m ≡ meter) }
     ensures memory { OnErr result (0 < vec_len calls) }
-    ensures law { MatchResult result (λ l. NewMeterKeeps (suite_at C.Cipher.enciphered C.Cipher.deciphered A.Authenticator.tagged meter) (S.Store.kept meter.parts.store) (S.Store.writes meter.parts.store) (journal_of l) (S.Store.kept l.meter.parts.store) (S.Store.writes l.meter.parts.store)) (λ m. m ≡ meter) }
+    ensures law { MatchResult result (λ l. NewMeterKeeps (suite_at C.enciphered C.deciphered A.tagged meter) (S.kept meter.parts.store) (S.writes meter.parts.store) (journal_of l) (S.kept l.meter.parts.store) (S.writes l.meter.parts.store)) (λ m. m ≡ meter) }
 {
     let mut ledger = Ledger::open(meter, heap);
     if ledger.lines.reserve(calls.len()).is_err() {

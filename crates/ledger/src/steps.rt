@@ -13,8 +13,8 @@ use meter::service::Meter;
 use store::Store;
 
 fn enter<S: Store, C: Cipher, A: Authenticator>(meter: &mut Meter<S, C, A>, text: &[u8]) -> Answer
-    ensures answer { result ≡ entry_answer (taking (judged (suite_at C.Cipher.enciphered C.Cipher.deciphered A.Authenticator.tagged meter.old) (S.Store.kept meter.old.parts.store) (S.Store.writes meter.old.parts.store) text.now)) }
-    ensures after { meter.new ≡ with_store meter.old (entry_obeyed S.Store.after (judged (suite_at C.Cipher.enciphered C.Cipher.deciphered A.Authenticator.tagged meter.old) (S.Store.kept meter.old.parts.store) (S.Store.writes meter.old.parts.store) text.now) meter.old.parts.store) }
+    ensures answer { result ≡ entry_answer (taking (judged (suite_at C.enciphered C.deciphered A.tagged meter.old) (S.kept meter.old.parts.store) (S.writes meter.old.parts.store) text.now)) }
+    ensures after { meter.new ≡ with_store meter.old (entry_obeyed S.after (judged (suite_at C.enciphered C.deciphered A.tagged meter.old) (S.kept meter.old.parts.store) (S.writes meter.old.parts.store) text.now) meter.old.parts.store) }
 {
     match meter.enter(text) {
         Ok(taken) => Answer::Taken(taken),
@@ -23,8 +23,8 @@ fn enter<S: Store, C: Cipher, A: Authenticator>(meter: &mut Meter<S, C, A>, text
 }
 
 fn spend<S: Store, C: Cipher, A: Authenticator>(meter: &mut Meter<S, C, A>, amount: u32) -> Answer
-    ensures answer { result ≡ spend_answer (spending amount (spend_judged (S.Store.kept meter.old.parts.store) (S.Store.writes meter.old.parts.store) amount)) }
-    ensures after { meter.new ≡ with_store meter.old (spend_obeyed S.Store.after (spend_judged (S.Store.kept meter.old.parts.store) (S.Store.writes meter.old.parts.store) amount) meter.old.parts.store) }
+    ensures answer { result ≡ spend_answer (spending amount (spend_judged (S.kept meter.old.parts.store) (S.writes meter.old.parts.store) amount)) }
+    ensures after { meter.new ≡ with_store meter.old (spend_obeyed S.after (spend_judged (S.kept meter.old.parts.store) (S.writes meter.old.parts.store) amount) meter.old.parts.store) }
 {
     match meter.spend(amount) {
         Ok(spent) => Answer::Spent(spent),
@@ -37,7 +37,7 @@ pub(crate) fn perform_at<S: Store, C: Cipher, A: Authenticator>(
     meter: &mut Meter<S, C, A>,
     call: &Call,
 ) -> Answer
-    ensures did { Performed (suite_at C.Cipher.enciphered C.Cipher.deciphered A.Authenticator.tagged meter.old) call.now result (S.Store.kept meter.old.parts.store) (S.Store.writes meter.old.parts.store) (S.Store.kept meter.new.parts.store) (S.Store.writes meter.new.parts.store) }
+    ensures did { Performed (suite_at C.enciphered C.deciphered A.tagged meter.old) call.now result (S.kept meter.old.parts.store) (S.writes meter.old.parts.store) (S.kept meter.new.parts.store) (S.writes meter.new.parts.store) }
     ensures same { meter.new ≡ with_store meter.old meter.new.parts.store }
 {
     match call {

@@ -48,14 +48,14 @@ impl<S, C, A> FittedMeter<S, C, A> {
 impl<S, C: Cipher + Drop, A: Authenticator + Drop> FittedMeter<S, C, A> {
     // Replaces the cipher by the one of its kind for the key and this MeterID.
     pub fn take_cipher_key(&mut self, key: &[u8; 16])
-        ensures { self.new ≡ with_cipher self.old (C.Cipher.keyed key.now self.old.parts.settings.meter) }
+        ensures { self.new ≡ with_cipher self.old (C.keyed key.now self.old.parts.settings.meter) }
     {
         self.parts.cipher = C::keyed(key, self.parts.settings.meter);
     }
 
     // Replaces the authenticator by the one of its kind for the key and this MeterID.
     pub fn take_authenticator_key(&mut self, key: &[u8; 16])
-        ensures { self.new ≡ with_authenticator self.old (A.Authenticator.keyed key.now self.old.parts.settings.meter) }
+        ensures { self.new ≡ with_authenticator self.old (A.keyed key.now self.old.parts.settings.meter) }
     {
         self.parts.authenticator = A::keyed(key, self.parts.settings.meter);
     }

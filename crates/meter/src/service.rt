@@ -25,8 +25,8 @@ pub struct Meter<S, C, A> {
 
 // Writes the record, if the store has a write left.
 fn keep<S: Store>(store: &mut S, next: Record) -> Result<(), Refusal>
-    ensures answer { result ≡ provided (nat_lt 0 (writes store.old)) NoWrites (Ok tt) }
-    ensures after { store.new ≡ (if ltb 0 (writes store.old) then after store.old next else store.old) }
+    ensures answer { result ≡ provided (nat_lt 0 (S.writes store.old)) NoWrites (Ok tt) }
+    ensures after { store.new ≡ (if ltb 0 (S.writes store.old) then S.after store.old next else store.old) }
 {
     if store.write(next) {
         Ok(())
@@ -54,8 +54,8 @@ impl<S, C, A> Meter<S, C, A> {
 impl<S: Store, C: Cipher, A: Authenticator> Meter<S, C, A> {
     // Takes the digits of a slip, or refuses them and stays as it was.
     pub fn enter(&mut self, text: &[u8]) -> Result<Taken, Refusal>
-        ensures answer { result ≡ taking (judged (suite_at C.Cipher.enciphered C.Cipher.deciphered A.Authenticator.tagged self.old) (S.Store.kept self.old.parts.store) (S.Store.writes self.old.parts.store) text.now) }
-        ensures after { self.new ≡ with_store self.old (entry_obeyed S.Store.after (judged (suite_at C.Cipher.enciphered C.Cipher.deciphered A.Authenticator.tagged self.old) (S.Store.kept self.old.parts.store) (S.Store.writes self.old.parts.store) text.now) self.old.parts.store) }
+        ensures answer { result ≡ taking (judged (suite_at C.enciphered C.deciphered A.tagged self.old) (S.kept self.old.parts.store) (S.writes self.old.parts.store) text.now) }
+        ensures after { self.new ≡ with_store self.old (entry_obeyed S.after (judged (suite_at C.enciphered C.deciphered A.tagged self.old) (S.kept self.old.parts.store) (S.writes self.old.parts.store) text.now) self.old.parts.store) }
     {
         let kept = self.parts.store.read();
         let worth = judge(
@@ -75,8 +75,8 @@ impl<S: Store, C: Cipher, A: Authenticator> Meter<S, C, A> {
 
     // Lowers the credit, or refuses to and stays as it was.
     pub fn spend(&mut self, amount: u32) -> Result<Spent, Refusal>
-        ensures answer { result ≡ spending amount (spend_judged (S.Store.kept self.old.parts.store) (S.Store.writes self.old.parts.store) amount) }
-        ensures after { self.new ≡ with_store self.old (spend_obeyed S.Store.after (spend_judged (S.Store.kept self.old.parts.store) (S.Store.writes self.old.parts.store) amount) self.old.parts.store) }
+        ensures answer { result ≡ spending amount (spend_judged (S.kept self.old.parts.store) (S.writes self.old.parts.store) amount) }
+        ensures after { self.new ≡ with_store self.old (spend_obeyed S.after (spend_judged (S.kept self.old.parts.store) (S.writes self.old.parts.store) amount) self.old.parts.store) }
     {
         if amount == 0 || amount > LARGEST_SPEND {
             return Err(Refusal::SpendAmount);
@@ -94,7 +94,7 @@ impl<S: Store, C: Cipher, A: Authenticator> Meter<S, C, A> {
 
     // The record that the store means.
     pub fn read(&mut self) -> Record
-        ensures value { result ≡ S.Store.kept self.old.parts.store }
+        ensures value { result ≡ S.kept self.old.parts.store }
         ensures same { self.new ≡ self.old }
     {
         self.parts.store.read()
@@ -102,7 +102,7 @@ impl<S: Store, C: Cipher, A: Authenticator> Meter<S, C, A> {
 
     // The credit, in minor units.
     pub fn credit(&mut self) -> u32
-        ensures value { result ≡ (S.Store.kept self.old.parts.store).credit }
+        ensures value { result ≡ (S.kept self.old.parts.store).credit }
         ensures same { self.new ≡ self.old }
     {
         self.parts.store.read().credit
@@ -110,7 +110,7 @@ impl<S: Store, C: Cipher, A: Authenticator> Meter<S, C, A> {
 
     // How many writes the store has left.
     pub fn writes_left(&mut self) -> u32
-        ensures value { result ≡ S.Store.writes self.old.parts.store }
+        ensures value { result ≡ S.writes self.old.parts.store }
         ensures same { self.new ≡ self.old }
     {
         self.parts.store.writes_left()

@@ -40,7 +40,7 @@ fn seal<C: Cipher, A: Authenticator>(
 ) -> Blocks
     requires salable { salable settings.now sale.now ≡ true }
     requires readied { ready.now ≡ readied sale.now }
-    ensures { result ≡ sealed_blocks (suite settings.now (C.Cipher.enciphered cipher.now) (C.Cipher.deciphered cipher.now) (A.Authenticator.tagged authenticator.now)) number index sale.now }
+    ensures { result ≡ sealed_blocks (suite settings.now (C.enciphered cipher.now) (C.deciphered cipher.now) (A.tagged authenticator.now)) number index sale.now }
 {
     let first = FirstBlock {
         subclass: sale.subclass,
@@ -76,7 +76,7 @@ pub fn print_slip<C: Cipher, A: Authenticator>(
     slip: &mut [u8; 80],
 ) -> Result<Printed, Refusal>
     ensures answer { result ≡ checked (sale_rules settings.now index sale.now) (Ok (printed_for sale.now)) }
-    ensures bytes { slip.new ≡ (if issuable settings.now index sale.now then slip_for (suite settings.now (C.Cipher.enciphered cipher.now) (C.Cipher.deciphered cipher.now) (A.Authenticator.tagged authenticator.now)) number index sale.now else slip.old) }
+    ensures bytes { slip.new ≡ (if issuable settings.now index sale.now then slip_for (suite settings.now (C.enciphered cipher.now) (C.deciphered cipher.now) (A.tagged authenticator.now)) number index sale.now else slip.old) }
 {
     let Some(ready) = ready_for(settings, sale) else {
         return Err(Refusal::Sale);

@@ -50,7 +50,7 @@ fn present_of(blocks: &Blocks) -> &[u64]
 }
 
 fn decipher_first<C: Cipher>(cipher: &C, block: u64) -> u64
-    ensures { result ≡ through_first (deciphered cipher.now) block }
+    ensures { result ≡ through_first (C.deciphered cipher.now) block }
 {
     ((block >> 57) << 57) + cipher.decipher(Width::First, block)
 }
@@ -58,7 +58,7 @@ fn decipher_first<C: Cipher>(cipher: &C, block: u64) -> u64
 // The further block at a place; 0 where there is none.
 fn decipher_further<C: Cipher>(cipher: &C, blocks: &Blocks, place: usize) -> u64
     requires { place < 4 }
-    ensures { result ≡ through_further (deciphered cipher.now) blocks.now place }
+    ensures { result ≡ through_further (C.deciphered cipher.now) blocks.now place }
 {
     if place >= blocks.groups {
         return 0;
@@ -68,7 +68,7 @@ fn decipher_further<C: Cipher>(cipher: &C, blocks: &Blocks, place: usize) -> u64
 }
 
 fn decipher_all<C: Cipher>(cipher: &C, blocks: &Blocks) -> Blocks
-    ensures { result ≡ through_all (deciphered cipher.now) blocks.now }
+    ensures { result ≡ through_all (C.deciphered cipher.now) blocks.now }
 {
     Blocks {
         groups: blocks.groups,
@@ -82,7 +82,7 @@ fn decipher_all<C: Cipher>(cipher: &C, blocks: &Blocks) -> Blocks
 }
 
 fn decipher_low<C: Cipher>(cipher: &C, subclass: SubClass, blocks: &Blocks) -> Blocks
-    ensures { result ≡ through_low (deciphered cipher.now) subclass blocks.now }
+    ensures { result ≡ through_low (C.deciphered cipher.now) subclass blocks.now }
 {
     match subclass {
         SubClass::Clear => *blocks,
@@ -92,7 +92,7 @@ fn decipher_low<C: Cipher>(cipher: &C, subclass: SubClass, blocks: &Blocks) -> B
 
 // The slip that blocks hold, or why they hold none.
 pub fn open_blocks<C: Cipher>(cipher: &C, blocks: &Blocks) -> Result<Opened, Refusal>
-    ensures value { result ≡ opened (deciphered cipher.now) blocks.now }
+    ensures value { result ≡ opened (C.deciphered cipher.now) blocks.now }
 {
     let subclass = shape(present_of(blocks))?;
     let blocks = decipher_low(cipher, subclass, blocks);

@@ -28,7 +28,7 @@ pub fn tag_field<A: Authenticator>(
     index: u16,
     slip: &Opened,
 ) -> u32
-    ensures { result ≡ tag_field settings.now (tagged authenticator.now) number (index_for slip.now.subclass index) slip.now.first (further_of slip.now) }
+    ensures { result ≡ tag_field settings.now (A.tagged authenticator.now) number (index_for slip.now.subclass index) slip.now.first (further_of slip.now) }
 {
     let index = index_for(slip.subclass, index);
     let message = message_of(settings, number, index, &slip.first, slip.further());

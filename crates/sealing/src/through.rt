@@ -24,7 +24,7 @@ pub fn present_of(blocks: &Blocks) -> &[u64]
 }
 
 fn turned<C: Cipher>(cipher: &C, way: Way, width: Width, n: u64) -> u64
-    ensures value { result ≡ map_by way (enciphered cipher.now) (deciphered cipher.now) width (n % 2 ^ bits width) }
+    ensures value { result ≡ map_by way (C.enciphered cipher.now) (C.deciphered cipher.now) width (n % 2 ^ bits width) }
     ensures bound { result < 2 ^ bits width }
 {
     match way {
@@ -34,7 +34,7 @@ fn turned<C: Cipher>(cipher: &C, way: Way, width: Width, n: u64) -> u64
 }
 
 fn first_through<C: Cipher>(cipher: &C, way: Way, block: u64) -> u64
-    ensures { result ≡ through_first (map_by way (enciphered cipher.now) (deciphered cipher.now)) block }
+    ensures { result ≡ through_first (map_by way (C.enciphered cipher.now) (C.deciphered cipher.now)) block }
 {
     ((block >> 57) << 57) + turned(cipher, way, Width::First, block)
 }
@@ -42,7 +42,7 @@ fn first_through<C: Cipher>(cipher: &C, way: Way, block: u64) -> u64
 // The further block at a place; 0 where there is none.
 fn further_through<C: Cipher>(cipher: &C, way: Way, blocks: &Blocks, place: usize) -> u64
     requires { place < 4 }
-    ensures { result ≡ through_further (map_by way (enciphered cipher.now) (deciphered cipher.now)) blocks.now place }
+    ensures { result ≡ through_further (map_by way (C.enciphered cipher.now) (C.deciphered cipher.now)) blocks.now place }
 {
     if place >= blocks.groups {
         return 0;
@@ -52,7 +52,7 @@ fn further_through<C: Cipher>(cipher: &C, way: Way, blocks: &Blocks, place: usiz
 }
 
 fn all_through<C: Cipher>(cipher: &C, way: Way, blocks: &Blocks) -> Blocks
-    ensures { result ≡ through_all (map_by way (enciphered cipher.now) (deciphered cipher.now)) blocks.now }
+    ensures { result ≡ through_all (map_by way (C.enciphered cipher.now) (C.deciphered cipher.now)) blocks.now }
 {
     Blocks {
         groups: blocks.groups,
@@ -67,7 +67,7 @@ fn all_through<C: Cipher>(cipher: &C, way: Way, blocks: &Blocks) -> Blocks
 
 // The blocks of a SubClass with their low bits enciphered or deciphered; those in clear stay as they are.
 pub fn low_through<C: Cipher>(cipher: &C, way: Way, subclass: SubClass, blocks: &Blocks) -> Blocks
-    ensures { result ≡ through_low (map_by way (enciphered cipher.now) (deciphered cipher.now)) subclass blocks.now }
+    ensures { result ≡ through_low (map_by way (C.enciphered cipher.now) (C.deciphered cipher.now)) subclass blocks.now }
 {
     match subclass {
         SubClass::Clear => *blocks,

@@ -87,14 +87,14 @@ impl<C, A> Till<C, A> {
 impl<C: Cipher + Drop, A: Authenticator + Drop> Till<C, A> {
     // Replaces the cipher by the one of its kind for the key and this MeterID.
     pub fn take_cipher_key(&mut self, key: &[u8; 16])
-        ensures { self.new ≡ with_cipher self.old (C.Cipher.keyed key.now self.old.settings.meter) }
+        ensures { self.new ≡ with_cipher self.old (C.keyed key.now self.old.settings.meter) }
     {
         self.cipher = C::keyed(key, self.settings.meter);
     }
 
     // Replaces the authenticator by the one of its kind for the key and this MeterID.
     pub fn take_authenticator_key(&mut self, key: &[u8; 16])
-        ensures { self.new ≡ with_authenticator self.old (A.Authenticator.keyed key.now self.old.settings.meter) }
+        ensures { self.new ≡ with_authenticator self.old (A.keyed key.now self.old.settings.meter) }
     {
         self.authenticator = A::keyed(key, self.settings.meter);
     }
@@ -111,7 +111,7 @@ impl<C: Cipher, A: Authenticator> Till<C, A> {
     ) -> Result<usize, NotIssued>
         ensures answer { result ≡ issuing drawn (checked (sale_rules self.old.settings self.old.index sale.now) (Ok (slip_length sale.now))) }
         ensures after { self.new ≡ (if issuable self.old.settings self.old.index sale.now then after_sale self.old sale.now else self.old) }
-        ensures bytes { slip.new ≡ (if issuable self.old.settings self.old.index sale.now then slip_for (till_suite C.Cipher.enciphered C.Cipher.deciphered A.Authenticator.tagged self.old) drawn.number self.old.index sale.now else slip.old) }
+        ensures bytes { slip.new ≡ (if issuable self.old.settings self.old.index sale.now then slip_for (till_suite C.enciphered C.deciphered A.tagged self.old) drawn.number self.old.index sale.now else slip.old) }
     {
         let printed = print_slip(
             &self.settings,

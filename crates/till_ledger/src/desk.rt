@@ -37,7 +37,7 @@ pub(crate) fn issue<C: Cipher, A: Authenticator>(
     hand: &mut Vec<DrawnNumber>,
     order: &Order,
 ) -> Answer
-    ensures did { (s : Suite) (kept : Record) (writes : ℕ) → Performed (till_suite C.Cipher.enciphered C.Cipher.deciphered A.Authenticator.tagged till.old) s (Issue order.now) result (desk_world kept writes till.old hand.old.items) (desk_world kept writes till.new hand.new.items) }
+    ensures did { (s : Suite) (kept : Record) (writes : ℕ) → Performed (till_suite C.enciphered C.deciphered A.tagged till.old) s (Issue order.now) result (desk_world kept writes till.old hand.old.items) (desk_world kept writes till.new hand.new.items) }
     ensures same { till.new ≡ with_desk till.old till.new.index till.new.counts }
     ensures capacity { vec_capacity hand.new ≡ vec_capacity hand.old }
 {

@@ -26,9 +26,9 @@ impl<S: Store, C: Cipher, A: Authenticator> Ledger<S, C, A> {
         ensures till { result.till ≡ till }
         ensures meter { result.meter ≡ meter }
         ensures hand { result.hand.items ≡ [] }
-        ensures start { start_of result ≡ world_of S.Store.kept S.Store.writes till [] meter }
+        ensures start { start_of result ≡ world_of S.kept S.writes till [] meter }
         ensures journal { journal_of result ≡ [] }
-        ensures lawful { Lawful S.Store.kept S.Store.writes C.Cipher.enciphered C.Cipher.deciphered A.Authenticator.tagged result }
+        ensures lawful { Lawful S.kept S.writes C.enciphered C.deciphered A.tagged result }
     {
         let mut meter = meter;
         let kept = meter.read();
@@ -52,12 +52,12 @@ impl<S: Store, C: Cipher, A: Authenticator> Ledger<S, C, A> {
     pub(crate) fn note(&mut self, call: Call) -> Answer
         requires room { vec_len self.old.lines < vec_capacity self.old.lines }
         requires place { vec_len self.old.hand < vec_capacity self.old.hand }
-        ensures did { Performed (till_suite C.Cipher.enciphered C.Cipher.deciphered A.Authenticator.tagged self.old.till) (suite_at C.Cipher.enciphered C.Cipher.deciphered A.Authenticator.tagged self.old.meter) call result (world_at S.Store.kept S.Store.writes self.old) (world_at S.Store.kept S.Store.writes self.new) }
-        ensures noted { journal_of self.new ≡ journal_of self.old ++ line_of call result (S.Store.writes self.new.meter.parts.store) ∷ [] }
+        ensures did { Performed (till_suite C.enciphered C.deciphered A.tagged self.old.till) (suite_at C.enciphered C.deciphered A.tagged self.old.meter) call result (world_at S.kept S.writes self.old) (world_at S.kept S.writes self.new) }
+        ensures noted { journal_of self.new ≡ journal_of self.old ++ line_of call result (S.writes self.new.meter.parts.store) ∷ [] }
         ensures meter { self.new.meter ≡ with_store self.old.meter self.new.meter.parts.store }
         ensures till { self.new.till ≡ with_desk self.old.till self.new.till.index self.new.till.counts }
         ensures opening { self.new.opening ≡ self.old.opening }
-        ensures lawful { Lawful S.Store.kept S.Store.writes C.Cipher.enciphered C.Cipher.deciphered A.Authenticator.tagged self.old → Lawful S.Store.kept S.Store.writes C.Cipher.enciphered C.Cipher.deciphered A.Authenticator.tagged self.new }
+        ensures lawful { Lawful S.kept S.writes C.enciphered C.deciphered A.tagged self.old → Lawful S.kept S.writes C.enciphered C.deciphered A.tagged self.new }
         ensures capacity { (vec_capacity self.new.lines ≡ vec_capacity self.old.lines) × (vec_capacity self.new.hand ≡ vec_capacity self.old.hand) }
     {
         let answer = perform_at(&mut self.till, &mut self.hand, &mut self.meter, &call);
@@ -73,13 +73,13 @@ impl<S: Store, C: Cipher, A: Authenticator> Ledger<S, C, A> {
     // Performs one call and notes it. Want of memory is found before the call, where the journal or the hand has no room left, and
     // leaves till, meter, hand and journal as they were.
     pub fn perform(&mut self, call: Call) -> Result<Answer, AllocError>
-        ensures did { MatchResult result (λ answer. Performed (till_suite C.Cipher.enciphered C.Cipher.deciphered A.Authenticator.tagged self.old.till) (suite_at C.Cipher.enciphered C.Cipher.deciphered A.Authenticator.tagged self.old.meter) call answer (world_at S.Store.kept S.Store.writes self.old) (world_at S.Store.kept S.Store.writes self.new)) (λ _. world_at S.Store.kept S.Store.writes self.new ≡ world_at S.Store.kept S.Store.writes self.old) }
-        ensures noted { MatchResult result (λ answer. journal_of self.new ≡ journal_of self.old ++ line_of call answer (S.Store.writes self.new.meter.parts.store) ∷ []) (λ _. (journal_of self.new ≡ journal_of self.old) × (self.new.meter ≡ self.old.meter)) }
+        ensures did { MatchResult result (λ answer. Performed (till_suite C.enciphered C.deciphered A.tagged self.old.till) (suite_at C.enciphered C.deciphered A.tagged self.old.meter) call answer (world_at S.kept S.writes self.old) (world_at S.kept S.writes self.new)) (λ _. world_at S.kept S.writes self.new ≡ world_at S.kept S.writes self.old) }
+        ensures noted { MatchResult result (λ answer. journal_of self.new ≡ journal_of self.old ++ line_of call answer (S.writes self.new.meter.parts.store) ∷ []) (λ _. (journal_of self.new ≡ journal_of self.old) × (self.new.meter ≡ self.old.meter)) }
         ensures memory { OnErr result ((vec_capacity self.old.lines ≡ vec_len self.old.lines) ⊎ (vec_capacity self.old.hand ≡ vec_len self.old.hand)) }
         ensures meter { self.new.meter ≡ with_store self.old.meter self.new.meter.parts.store }
         ensures till { self.new.till ≡ with_desk self.old.till self.new.till.index self.new.till.counts }
         ensures opening { self.new.opening ≡ self.old.opening }
-        ensures lawful { Lawful S.Store.kept S.Store.writes C.Cipher.enciphered C.Cipher.deciphered A.Authenticator.tagged self.old → Lawful S.Store.kept S.Store.writes C.Cipher.enciphered C.Cipher.deciphered A.Authenticator.tagged self.new }
+        ensures lawful { Lawful S.kept S.writes C.enciphered C.deciphered A.tagged self.old → Lawful S.kept S.writes C.enciphered C.deciphered A.tagged self.new }
     {
         self.lines.reserve(1)?;
         self.hand.reserve(1)?;
@@ -88,7 +88,7 @@ impl<S: Store, C: Cipher, A: Authenticator> Ledger<S, C, A> {
 
     // The credit of the meter, in minor units.
     pub fn credit(&mut self) -> u32
-        ensures value { result ≡ (S.Store.kept self.old.meter.parts.store).credit }
+        ensures value { result ≡ (S.kept self.old.meter.parts.store).credit }
         ensures same { self.new ≡ self.old }
     {
         self.meter.credit()

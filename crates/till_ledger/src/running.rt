@@ -41,10 +41,10 @@ pub fn run<S: Store, C: Cipher, A: Authenticator>(
     ensures calls { MatchResult result (λ l. calls_of (journal_of l) ≡ calls.items) (λ back. back ≡ (till, meter)) }
     ensures meter { MatchResult result (λ l. l.meter ≡ with_store meter l.meter.parts.store) (λ back. back ≡ (till, meter)) }
     ensures till { MatchResult result (λ l. l.till ≡ with_desk till l.till.index l.till.counts) (λ back. back ≡ (till, meter)) }
-    ensures start { MatchResult result (λ l. start_of l ≡ world_of S.Store.kept S.Store.writes till [] meter) (λ back. back ≡ (till, meter)) }
-    ensures performed { MatchResult result (λ l. AllPerformed (till_suite C.Cipher.enciphered C.Cipher.deciphered A.Authenticator.tagged till) (suite_at C.Cipher.enciphered C.Cipher.deciphered A.Authenticator.tagged meter) (world_of S.Store.kept S.Store.writes till [] meter) (journal_of l) (world_at S.Store.kept S.Store.writes l)) (λ back. back ≡ (till, meter)) }
+    ensures start { MatchResult result (λ l. start_of l ≡ world_of S.kept S.writes till [] meter) (λ back. back ≡ (till, meter)) }
+    ensures performed { MatchResult result (λ l. AllPerformed (till_suite C.enciphered C.deciphered A.tagged till) (suite_at C.enciphered C.deciphered A.tagged meter) (world_of S.kept S.writes till [] meter) (journal_of l) (world_at S.kept S.writes l)) (λ back. back ≡ (till, meter)) }
     ensures memory { OnErr result (0 < vec_len calls) }
-    ensures law { MatchResult result (λ l. NewWorld (world_of S.Store.kept S.Store.writes till [] meter) → till_suite C.Cipher.enciphered C.Cipher.deciphered A.Authenticator.tagged till ≡ suite_at C.Cipher.enciphered C.Cipher.deciphered A.Authenticator.tagged meter → Law (suite_at C.Cipher.enciphered C.Cipher.deciphered A.Authenticator.tagged meter) (world_of S.Store.kept S.Store.writes till [] meter) (journal_of l) (world_at S.Store.kept S.Store.writes l)) (λ back. back ≡ (till, meter)) }
+    ensures law { MatchResult result (λ l. NewWorld (world_of S.kept S.writes till [] meter) → till_suite C.enciphered C.deciphered A.tagged till ≡ suite_at C.enciphered C.deciphered A.tagged meter → Law (suite_at C.enciphered C.deciphered A.tagged meter) (world_of S.kept S.writes till [] meter) (journal_of l) (world_at S.kept S.writes l)) (λ back. back ≡ (till, meter)) }
 {
     let mut ledger = Ledger::open(till, meter, heap);
     if ledger.lines.reserve(calls.len()).is_err() {

@@ -18,8 +18,8 @@ use till::drawn::DrawnNumber;
 use till::selling::Till;
 
 fn enter<S: Store, C: Cipher, A: Authenticator>(meter: &mut Meter<S, C, A>, text: &[u8]) -> Answer
-    ensures answer { result ≡ entry_answer (taking (judged (suite_at C.Cipher.enciphered C.Cipher.deciphered A.Authenticator.tagged meter.old) (S.Store.kept meter.old.parts.store) (S.Store.writes meter.old.parts.store) text.now)) }
-    ensures after { meter.new ≡ with_store meter.old (entry_obeyed S.Store.after (judged (suite_at C.Cipher.enciphered C.Cipher.deciphered A.Authenticator.tagged meter.old) (S.Store.kept meter.old.parts.store) (S.Store.writes meter.old.parts.store) text.now) meter.old.parts.store) }
+    ensures answer { result ≡ entry_answer (taking (judged (suite_at C.enciphered C.deciphered A.tagged meter.old) (S.kept meter.old.parts.store) (S.writes meter.old.parts.store) text.now)) }
+    ensures after { meter.new ≡ with_store meter.old (entry_obeyed S.after (judged (suite_at C.enciphered C.deciphered A.tagged meter.old) (S.kept meter.old.parts.store) (S.writes meter.old.parts.store) text.now) meter.old.parts.store) }
 {
     match meter.enter(text) {
         Ok(taken) => Answer::Taken(taken),
@@ -28,8 +28,8 @@ fn enter<S: Store, C: Cipher, A: Authenticator>(meter: &mut Meter<S, C, A>, text
 }
 
 fn spend<S: Store, C: Cipher, A: Authenticator>(meter: &mut Meter<S, C, A>, amount: u32) -> Answer
-    ensures answer { result ≡ spend_answer (spending amount (spend_judged (S.Store.kept meter.old.parts.store) (S.Store.writes meter.old.parts.store) amount)) }
-    ensures after { meter.new ≡ with_store meter.old (spend_obeyed S.Store.after (spend_judged (S.Store.kept meter.old.parts.store) (S.Store.writes meter.old.parts.store) amount) meter.old.parts.store) }
+    ensures answer { result ≡ spend_answer (spending amount (spend_judged (S.kept meter.old.parts.store) (S.writes meter.old.parts.store) amount)) }
+    ensures after { meter.new ≡ with_store meter.old (spend_obeyed S.after (spend_judged (S.kept meter.old.parts.store) (S.writes meter.old.parts.store) amount) meter.old.parts.store) }
 {
     match meter.spend(amount) {
         Ok(spent) => Answer::Spent(spent),
@@ -45,7 +45,7 @@ pub(crate) fn perform_at<S: Store, C: Cipher, A: Authenticator>(
     call: &Call,
 ) -> Answer
     requires { vec_len hand.old < vec_capacity hand.old }
-    ensures did { Performed (till_suite C.Cipher.enciphered C.Cipher.deciphered A.Authenticator.tagged till.old) (suite_at C.Cipher.enciphered C.Cipher.deciphered A.Authenticator.tagged meter.old) call.now result (world_of S.Store.kept S.Store.writes till.old hand.old.items meter.old) (world_of S.Store.kept S.Store.writes till.new hand.new.items meter.new) }
+    ensures did { Performed (till_suite C.enciphered C.deciphered A.tagged till.old) (suite_at C.enciphered C.deciphered A.tagged meter.old) call.now result (world_of S.kept S.writes till.old hand.old.items meter.old) (world_of S.kept S.writes till.new hand.new.items meter.new) }
     ensures meter { meter.new ≡ with_store meter.old meter.new.parts.store }
     ensures till { till.new ≡ with_desk till.old till.new.index till.new.counts }
     ensures capacity { vec_capacity hand.new ≡ vec_capacity hand.old }
