@@ -37,6 +37,7 @@ fn is_authentic<A: Authenticator>(
 }
 
 // The tariff that the slip brings, if its SubClass has one.
+#[tactic(auto, unfolding(crate::specs::Stages::tariff_from))]
 fn new_tariff(slip: &Opened) -> Result<Option<Tariff>, Refusal>
     ensures { result ≡ tariff_from slip.now }
 {
