@@ -17,13 +17,13 @@ pub loop-call-init : goal.loop-call-init
 loop-call-init g c =
     let opened = c.open-ledger.result in
     let m = opened.meter in
-    let it = c.into-iter-call-iterator.result in
+    let it = c.into_iter-call-iterator.result in
     let items : vec_items c.reserve.new.self ≡ vec_items opened.lines = c.reserve.ensures.items in
     let room : vec_len c.reserve.new.self + c.len.result ≤ vec_capacity c.reserve.new.self = search rules in (
       tt,
       tt,
       ap (λ ls. calls_of ls ++ into_iter_items it) (items ∙ c.open-ledger.ensures.journal),
-      omega (arith, room, c.len.ensures, c.into-iter-call-iterator.ensures.into-iter-gives.1),
+      omega (arith, room, c.len.ensures, c.into_iter-call-iterator.ensures.into_iter_gives.1),
       refl,
       refl,
       refl,
@@ -68,14 +68,14 @@ returns g c =
     let meter : c.open-ledger.result.meter ≡ c.args.meter = opened.meter in
     let kept = g.S.Store.kept in
     let writes = g.S.Store.writes in
-    let all : calls_of (journal_of last) ≡ into_iter_items c.into-iter-call-iterator.result =
+    let all : calls_of (journal_of last) ≡ into_iter_items c.into_iter-call-iterator.result =
     calls_all (journal_of last) (into_iter_items it) _ (omega (arith, it.rest.ok.0, c.in-None.ensures.steps.0)) inv.2 in
     let only : last.meter ≡ with_store c.args.meter last.meter.parts.store =
     inv.4 ∙ ap (λ n. with_store n last.meter.parts.store) meter in
     let opening : last.opening ≡ kept c.args.meter.parts.store = inv.5 ∙ opened.opening in
     let at_first : last.opening_writes ≡ writes c.args.meter.parts.store = inv.6 ∙ opened.writes in
     record {
-      calls = all ∙ c.into-iter-call-iterator.ensures.into-iter-gives.0;
+      calls = all ∙ c.into_iter-call-iterator.ensures.into_iter_gives.0;
       same = only;
       memory = tt;
       performed =

@@ -15,7 +15,7 @@ loop-call-init g c =
     let opened = c.open-ledger.result in
     let of_till = till_suite g.C.Cipher.enciphered g.C.Cipher.deciphered g.A.Authenticator.tagged opened.till in
     let of_meter = suite_at g.C.Cipher.enciphered g.C.Cipher.deciphered g.A.Authenticator.tagged opened.meter in
-    let it = c.into-iter-call-iterator.result in
+    let it = c.into_iter-call-iterator.result in
     let items : vec_items c.reserve.new.self ≡ vec_items opened.lines = c.reserve.ensures.items in
     let held : vec_items c.reserve-2.new.self ≡ vec_items opened.hand = c.reserve-2.ensures.items in
     let none : vec_items c.reserve.new.self ≡ [] = items ∙ c.open-ledger.ensures.journal in
@@ -25,8 +25,8 @@ loop-call-init g c =
       tt,
       tt,
       ap (λ ls. calls_of ls ++ into_iter_items it) none,
-      omega (arith, room, c.len.ensures, c.into-iter-call-iterator.ensures.into-iter-gives.1),
-      omega (arith, place, c.len-2.ensures, c.into-iter-call-iterator.ensures.into-iter-gives.1),
+      omega (arith, room, c.len.ensures, c.into_iter-call-iterator.ensures.into_iter_gives.1),
+      omega (arith, place, c.len-2.ensures, c.into_iter-call-iterator.ensures.into_iter_gives.1),
       refl,
       refl,
       refl,
@@ -80,7 +80,7 @@ returns g c =
     let of_meter = suite_at {S = g.row.S.Denot} g.C.Cipher.enciphered g.C.Cipher.deciphered g.A.Authenticator.tagged in
     let at = world_at {C = g.row.C.Denot} {A = g.row.A.Denot} kept writes last in
     let begun = world_of kept writes c.args.till [] c.args.meter in
-    let all : calls_of (journal_of last) ≡ into_iter_items c.into-iter-call-iterator.result =
+    let all : calls_of (journal_of last) ≡ into_iter_items c.into_iter-call-iterator.result =
     calls_all (journal_of last) (into_iter_items it) _ (omega (arith, it.rest.ok.0, c.in-None.ensures.steps.0)) inv.2 in
     let hand : vec_items c.reserve-2.new.self ≡ [] = c.reserve-2.ensures.items ∙ opened.hand in
     let meter : last.meter ≡ with_store c.args.meter last.meter.parts.store =
@@ -90,7 +90,7 @@ returns g c =
     let start : start_of last ≡ begun =
     (λ i. record { kept = (inv.7 i).kept; writes = (inv.7 i).writes; counts = (inv.7 i).counts; index = (inv.7 i).index; hand = [] }) ∙ opened.start in
     record {
-      calls = all ∙ c.into-iter-call-iterator.ensures.into-iter-gives.0;
+      calls = all ∙ c.into_iter-call-iterator.ensures.into_iter_gives.0;
       meter = meter;
       till = till;
       start = start;
