@@ -29,7 +29,7 @@ loop-n-preserved c =
 
 pub invariant_of-result : goal.invariant_of-result
 unfolding expanded
-invariant_of-result c = (filled_all (λ n. packed (round_key c.args.key.now n)) [] 11 _ (c.loop-n.n + 1) (omega arith) c.loop-n.invariant.0, tt)
+invariant_of-result c = record { kept = filled_all (λ n. packed (round_key c.args.key.now n)) [] 11 _ (c.loop-n.n + 1) (omega arith) c.loop-n.invariant.0 }
 
 pub returns : goal.returns
 returns c = made _ _ _
