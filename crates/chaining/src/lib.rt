@@ -44,7 +44,7 @@ pub fn block_of(bytes: &[u8]) -> u128
 
 // Goes through the blocks of a row, the last one filled up with zeros: each is added to what came of those before it, and mapped.
 pub fn chain<M: BlockMap>(map: &M, start: u128, bytes: &[u8]) -> u128
-    ensures { result ≡ chained (mapped map.now) start (blocks_of bytes.now) }
+    ensures { result ≡ chained (M.mapped map.now) start (blocks_of bytes.now) }
 {
     let mut y = start;
     for k in 0..bytes.len().div_ceil(16) {
