@@ -10,7 +10,7 @@ loop-n-preserved c = filled_more (λ n. product_from 4 n c.args.key 0) 0 16 _ _ 
 
 pub invariant_of-result : goal.invariant_of-result
 unfolding products_of
-invariant_of-result c = (filled_all (λ n. product_from 4 n c.args.key 0) 0 16 _ c.loop-n.n (omega arith) c.loop-n.invariant, tt)
+invariant_of-result c = record { kept = filled_all (λ n. product_from 4 n c.args.key 0) 0 16 _ c.loop-n.n (omega arith) c.loop-n.invariant }
 
 pub returns : goal.returns
 returns c = made _ _ _
