@@ -1,8 +1,9 @@
--- Sixteen bytes and the number of 128 bits that they spell.
-use Rattle.std.proofs.Common.{◌≡◌, ℕ, ◌+◌, ◌*◌, List, map, length, get_or, sym, refl, ap, ◌∙◌, arith}
+-- Sixteen bytes and the number of 128 bits that they spell; the bytes of a number are bytes.
+use Rattle.std.proofs.Common.{◌≡◌, ℕ, zero, suc, ◌+◌, ◌*◌, ◌/◌, ◌^◌, List, map, length, get_or, sym, refl, ap, ◌∙◌, lit<, mod-lt, arith}
 use Rattle.std.specs.List.{range_with_len}
-use Rattle.std.specs.Int.Digits.{number_from_digits}
+use Rattle.std.specs.Int.Digits.{number_from_digits, AllBelowBase}
 use Rattle.std.proofs.lemmas.List.FromFn.{fill_by_all}
+use Rattle.spelling.specs.Spelling.{bytes_of}
 
 -- the number of sixteen bytes, as `u128::from_be_bytes` has it
 abbrev pub joined : (ℕ → ℕ) → ℕ
@@ -18,3 +19,8 @@ joined_is f = omega arith
 pub number_is : (xs : List ℕ) → length xs ≡ 16 → joined (λ i. get_or xs i 0) ≡ number_from_digits 256 xs
 number_is xs e =
     joined_is (λ i. get_or xs i 0) ∙ ap (number_from_digits 256) (sym (fill_by_all (λ (i : ℕ). get_or xs i 0) xs 16 0 e (λ k h. refl)))
+
+pub bytes_below : (k n : ℕ) → AllBelowBase 256 (bytes_of k n)
+bytes_below zero n = tt
+bytes_below (suc zero) n = (mod-lt n (lit< tt), tt)
+bytes_below (suc (suc k)) n = (mod-lt (n / 256 ^ suc k) (lit< tt), bytes_below (suc k) n)

@@ -1,5 +1,5 @@
 -- A row with the byte 0x80 behind it, byte by byte.
-use Rattle.std.proofs.Common.{◌≡◌, ℕ, zero, suc, ◌+◌, ◌≢◌, List, [], ◌∷◌, ◌++◌, length, get_or, sym, refl, ap}
+use Rattle.std.proofs.Common.{◌≡◌, ℕ, zero, suc, ◌≢◌, List, [], ◌∷◌, ◌++◌, length, get_or, sym, refl, ap}
 use lib.Seq.{get_or_at}
 
 pub at_end : (xs : List ℕ) (i : ℕ) → i ≡ length xs → get_or (xs ++ (128 ∷ [])) i 0 ≡ 128

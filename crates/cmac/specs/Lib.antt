@@ -1,3 +1,4 @@
 pub mod Cmac
 pub mod Subkeys
 pub mod Authenticating
+pub mod Tags

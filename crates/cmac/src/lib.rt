@@ -7,7 +7,7 @@ ghost use Rattle.chaining.specs.Blocks.{block_of};
 ghost use Rattle.cmac.specs.Cmac.{doubled, last_block, cmac};
 ghost use Rattle.cmac.specs.Subkeys.{subkeys_of};
 ghost use Rattle.cmac.specs.Authenticating.{cmac_for, mac_key, cmac_tag};
-ghost use borrow.Author.Rules.{rules};
+ghost use Rattle.cmac.specs.Tags.{cmac_sixteen, cmac_bytes};
 
 pub mod state;
 pub mod subkeys;
@@ -92,9 +92,9 @@ impl Authenticator for Cmac {
 
     ghost keyed = { cmac_for };
 
-    ghost sixteen = { unfold cmac in Prim.search rules };
+    ghost sixteen = { cmac_sixteen };
 
-    ghost bytes = { unfold cmac in Prim.search rules };
+    ghost bytes = { cmac_bytes };
 
     fn tag(&self, nonce: &[u8; 12], message: &[u8]) -> [u8; 16] {
         let part = counting_part(message);
