@@ -1,2 +1,3 @@
 pub mod Gmac
 pub mod Authenticating
+pub mod Tags

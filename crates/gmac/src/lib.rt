@@ -2,9 +2,9 @@
 #![tactic(auto)]
 
 ghost use Rattle.std.specs.Prelude.{◌≡◌};
-ghost use Rattle.gmac.specs.Gmac.{first_counter, gmac};
+ghost use Rattle.gmac.specs.Gmac.{first_counter};
 ghost use Rattle.gmac.specs.Authenticating.{gmac_for, gmac_tag};
-ghost use borrow.Author.Rules.{rules};
+ghost use Rattle.gmac.specs.Tags.{gmac_sixteen, gmac_bytes};
 
 pub mod state;
 
@@ -28,9 +28,9 @@ impl Authenticator for Gmac {
 
     ghost keyed = { gmac_for };
 
-    ghost sixteen = { unfold gmac in Prim.search rules };
+    ghost sixteen = { gmac_sixteen };
 
-    ghost bytes = { unfold gmac in Prim.search rules };
+    ghost bytes = { gmac_bytes };
 
     fn tag(&self, nonce: &[u8; 12], message: &[u8]) -> [u8; 16] {
         let part = counting_part(message);

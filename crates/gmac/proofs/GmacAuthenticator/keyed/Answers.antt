@@ -4,7 +4,7 @@ use Rattle.gmac.proofs.Tagging.{made}
 use Rattle.gmac.proofs.GmacAuthenticator.keyed.Goals as goal
 
 pub invariant_of-result : goal.invariant_of-result
-invariant_of-result c = (c.new-hash.ensures ∙ ap hash_for c.apply.ensures, tt)
+invariant_of-result c = record { kept = c.new-hash.ensures ∙ ap hash_for c.apply.ensures }
 
 pub returns : goal.returns
-returns c = made _ c.args.-meter _ _ _ c.new-aes.ensures
+returns c = made _ c.args._meter _ _ _ c.new-aes.ensures
