@@ -4,4 +4,4 @@ pub mod Sizes
 pub mod Network
 pub mod Preparing
 pub mod Ciphering
-pub mod Returning
+pub mod CipheringLaws

@@ -10,8 +10,7 @@ ghost use Rattle.ff1.specs.Laws.{Ff1Returns};
 ghost use Rattle.ff1.specs.Sizes.{sizes_of, room_for};
 ghost use Rattle.ff1.specs.Preparing.{rounds_of};
 ghost use Rattle.ff1.specs.Ciphering.{ff1_for, ff1_enciphered, ff1_deciphered};
-ghost use Rattle.std.proofs.Common.{lit<};
-ghost use Rattle.ff1.specs.Returning.{ff1_returns};
+ghost use Rattle.ff1.specs.CipheringLaws.{ff1_below, ff1_within, ff1_undone};
 
 pub(crate) mod network;
 pub(crate) mod preparing;
@@ -102,11 +101,11 @@ impl Cipher for Ff1 {
 
     ghost keyed = { ff1_for };
 
-    ghost below = { λ c w n h. (ff1_returns 2 (bits w) (key_of c.aes) (bytes_of 8 c.meter) n (lit< tt) h).below };
+    ghost below = { ff1_below };
 
-    ghost within = { λ c w n h. (ff1_returns 2 (bits w) (key_of c.aes) (bytes_of 8 c.meter) n (lit< tt) h).within };
+    ghost within = { ff1_within };
 
-    ghost undone = { λ c w n h. (ff1_returns 2 (bits w) (key_of c.aes) (bytes_of 8 c.meter) n (lit< tt) h).back };
+    ghost undone = { ff1_undone };
 
     fn encipher(&self, width: Width, n: u64) -> u64 {
         let rounds = self.rounds(width);
