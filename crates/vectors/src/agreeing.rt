@@ -11,7 +11,7 @@ pub(crate) trait Vector {
 }
 
 pub(crate) fn agreeing<V: Vector>(vectors: &[V]) -> usize
-    ensures { result ≡ count_by right vectors.now }
+    ensures { result ≡ count_by V.right vectors.now }
 {
     let mut count = 0;
     for v in vectors {
