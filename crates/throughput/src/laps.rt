@@ -22,7 +22,7 @@ pub(crate) trait Lap {
 
 // So many operations, from a start on.
 pub(crate) fn laps<L: Lap>(operation: &L, count: u32, start: u128) -> u128
-    ensures { result ≡ repeated count (lapped operation.now) start }
+    ensures { result ≡ repeated count (L.lapped operation.now) start }
 {
     let mut n = start;
     for i in 0..count {
