@@ -1,7 +1,7 @@
 -- What a till and its meter agree on: settings_of, the settings that values give; Suite, settings with the meanings of cipher and
 -- authenticator, suite, one of its parts, and Sound, what these meanings keep; multiplier_of and amount_of, what an amount code is
 -- worth.
-use Rattle.std.specs.Prelude.{◌≡◌, ℕ, ◌*◌, ◌^◌, ◌<◌, T, List, length, Result, slice_index}
+use Rattle.std.specs.Prelude.{◌≡◌, ℕ, ◌*◌, ◌^◌, ◌<◌, List, length, Result, slice_index}
 use Rattle.std.specs.Int.Digits.{AllBelowBase}
 use Rattle.refusal.specs.Checks.{found}
 use Rattle.refusal.specs.declared.Refusal.{Refusal}

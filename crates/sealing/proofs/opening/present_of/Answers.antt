@@ -1,4 +1,4 @@
-use Rattle.std.proofs.Common.{◌≡◌, ℕ, ◌-◌, min, length, arith, rules}
+use Rattle.std.proofs.Common.{◌≡◌, ◌-◌, min, length, arith, rules}
 use Rattle.sealing.proofs.Few.{take-cut}
 use Rattle.sealing.proofs.opening.present_of.Goals as goal
 

@@ -1,4 +1,4 @@
-use Rattle.std.proofs.Common.{◌≡◌, ℕ, ◌-◌, ◌≤◌, min, length, drop, arith, length-drop, length-take, rules}
+use Rattle.std.proofs.Common.{◌≡◌, ◌-◌, ◌≤◌, min, length, drop, arith, length-drop, length-take, rules}
 use Rattle.sealing.proofs.Few.{take-cut}
 use Rattle.sealing.proofs.opening.Opened.further.Goals as goal
 
