@@ -1,6 +1,6 @@
 -- A meter on the bench, with the clear cipher and the byte sum: bench_settings, bench_suite; blank, its first record; entered, what the
 -- digits of an entry come to; leaves, the record after it.
-use Rattle.std.specs.Prelude.{ℕ, [], ◌∷◌, Ok, Err, codes, Result}
+use Rattle.std.specs.Prelude.{[], ◌∷◌, Ok, Err, codes, Result}
 use Prim.Native.String.{String}
 use Rattle.refusal.specs.declared.Refusal.{Refusal}
 use Rattle.cipher.specs.Clearing.{as_is}
