@@ -1,5 +1,5 @@
 -- The plain store is a store: plain_holds, it means the record written; plain_most and plain_least, its count stays.
-use Rattle.std.specs.Prelude.{◌≡◌, ℕ, ◌-◌, ◌<◌, ◌≤◌, refl}
+use Rattle.std.specs.Prelude.{◌≡◌, ◌-◌, ◌<◌, ◌≤◌, refl}
 use Rattle.std.proofs.Common.{lit≤}
 use Rattle.record.specs.declared.Record.{Record}
 use Rattle.store.specs.declared.plain.PlainStore.{PlainStore}

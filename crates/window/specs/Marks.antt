@@ -1,5 +1,5 @@
 -- What a window tells of the numbers counted: blank_window, window_of, marked_in, marked, stays, with_mark, counted, Counted.
-use Rattle.std.specs.Prelude.{◌≡◌, ℕ, ◌+◌, ◌-◌, ◌<◌, ◌≤◌, max, Bool, cond, ◌&&◌, ◌||◌, T, Option, ◌==◌, nat_lt}
+use Rattle.std.specs.Prelude.{◌≡◌, ℕ, ◌+◌, ◌-◌, ◌<◌, ◌≤◌, max, Bool, cond, ◌&&◌, ◌||◌, Option, ◌==◌, nat_lt}
 use Rattle.std.proofs.Common.{lt→ltb}
 use Rattle.refusal.specs.Making.{where_so}
 use Rattle.window.specs.Limits.{room, markable}
