@@ -1,7 +1,7 @@
 -- One field cut off the front: hit, as a slice pattern and a split give it; cut-written, taken-written, of a field that was
 -- written; Stood, cut_back, taken_back, of one that was cut. Assumes nothing.
 use Rattle.std.proofs.Common.{◌≡◌, ℕ, ◌+◌, ◌-◌, ◌*◌, ◌/◌, ◌%◌, ◌<◌, ◌≤◌, true, ◌&&◌, eqb, leb, List, [], ◌∷◌, ◌++◌, length, get_or, take, drop, Some, sym, refl, ap, ◌∙◌, subst, arith, length-append, take-append-drop, length-take, take_all, take_at, drop_at}
-use Rattle.std.proofs.lemmas.Bool.{le-leb, leb-true, eq-eqb, eqb-true, and_parts, and_from}
+use Rattle.std.proofs.lemmas.Bool.{le-leb, leb-true, eq-eqb, eqb-true, and_parts}
 use Rattle.std.proofs.ByRecursion.{All-take, All-drop}
 use Rattle.fields.specs.Fields.{Field, field, written, Part, cut_at, cut, fitting, taken, Bytes}
 use Rattle.fields.proofs.Steps.{came, chosen}
@@ -32,8 +32,8 @@ cut-written f v rest e = cut_at_lem f.tag (f.width / 256 * 256 + f.width % 256) 
 
 pub taken-written : (f : Field) (v rest : List ℕ) → length v ≡ f.width → taken f (written f v ++ rest) ≡ Some (record { tag = f.tag; value = v; rest = rest })
 taken-written f v rest e =
-    let same : (eqb f.tag f.tag && eqb (length v) f.width) ≡ true = and_from _ _ (eq-eqb f.tag f.tag refl) (eq-eqb (length v) f.width e) in
-    rw (cut-written f v rest e, same) refl
+    let yes : (n : ℕ) → eqb n n ≡ true = λ n. eq-eqb n n refl in
+    rw (cut-written f v rest e) (simp (e, yes))
 
 -- what a cut gave stood there so
 parted : (tag n : ℕ) (xs : List ℕ) (p : Part) → cut_at tag n xs ≡ Some p → (n ≤ length xs) × (p ≡ record { tag = tag; value = take n xs; rest = drop n xs })

@@ -1,5 +1,5 @@
 -- Reading and writing undo one another, whatever the form: there, back, read_long, row_long, row-append. Assumes nothing.
-use Rattle.std.proofs.Common.{◌≡◌, ℕ, ◌+◌, ◌≤◌, List, [], ◌∷◌, ◌++◌, length, Some, sym, refl, ap, ◌∙◌, subst, append_assoc, arith, length-append}
+use Rattle.std.proofs.Common.{◌≡◌, ℕ, ◌≤◌, List, [], ◌∷◌, ◌++◌, length, Some, sym, refl, ap, ◌∙◌, subst, append_assoc, arith, length-append}
 use Rattle.fields.specs.Options.{and_then}
 use Rattle.fields.specs.Fields.{Field, field, written, taken, row_of, Reading, read, size, Fit, Bytes}
 use Rattle.fields.specs.Law.{ReadBack}
