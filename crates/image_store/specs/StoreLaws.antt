@@ -1,19 +1,14 @@
--- An image store after a write: after_bytes, after_told; Wrote, wrote, from what was read and what was put. Assumes nothing.
-use Rattle.std.specs.Prelude.{◌≡◌, ℕ, ◌-◌, ◌<◌, ◌≤◌, Bool, true, cond, ltb, List, length, drop, is_ok, Some, None, Ok, vec_items, Option, Result, ◌≢◌, nat_lt, refl}
+-- The image store is a store: image_holds, it means the record written; image_most and image_least, its count is lowered by one.
+-- after_bytes, after_told, its bytes after a write and what they tell. Assumes nothing.
+use Rattle.std.specs.Prelude.{◌≡◌, ℕ, ◌-◌, ◌<◌, ◌≤◌, List, length, drop, Some, None, vec_items, Option, refl}
 use Rattle.std.proofs.Common.{sym, ap, ◌∙◌, arith, length-append, length-drop}
 use Rattle.std.proofs.lemmas.List.{with_items_is}
-use Rattle.std.proofs.lemmas.Bool.{lt-ltb, le-leb, cond-true}
-use Rattle.std.specs.Vec.{with_items}
-use Rattle.refusal.specs.Checks.{provided}
-use Rattle.refusal.specs.declared.Refusal.{Refusal}
-use Rattle.refusal.specs.declared.Refusal.TheVariants.{ShortMemory}
 use Rattle.record.specs.declared.Record.{Record}
 use Rattle.fields.specs.Fields.{row_of}
 use Rattle.fields.proofs.Rows.{row_long}
 use Rattle.image.specs.Forms.{image_form}
-use Rattle.image.specs.Formats.{has_room, format_answer, formatted}
-use Rattle.image.specs.Images.{image_values, decoded, image_over, writes_or}
-use Rattle.image_store.specs.Stores.{image_writes, bytes_after, image_after}
+use Rattle.image.specs.Images.{image_values, decoded, image_over, record_or, writes_or}
+use Rattle.image_store.specs.Stores.{image_kept, image_writes, bytes_after, image_after}
 use Rattle.image.specs.declared.content.Image.{Image}
 use Rattle.image_store.specs.declared.ImageStore.{ImageStore}
 use Rattle.image.proofs.Puts.{fit_image}
@@ -40,25 +35,14 @@ after_bytes s r h =
 pub after_told : (s : ImageStore) (r : Record) → 0 < image_writes s → decoded (vec_items (image_after s r).memory) ≡ Some (record { kept = r; writes = image_writes s - 1 })
 after_told s r h = ap decoded (after_bytes s r h) ∙ image_there r (image_writes s - 1) (vec_items s.memory)
 
--- what a write is to show
-pub record Wrote (s : ImageStore) (r : Record) (done : Bool) (put : List ℕ) : Type 0 where
-  pub test : done ≡ nat_lt 0 (image_writes s)
-  pub after : ◌≡◌ {A = ImageStore} (record { memory = with_items s.memory put }) (cond (nat_lt 0 (image_writes s)) (image_after s r) s)
-  pub bytes : vec_items (with_items s.memory put) ≡ cond (nat_lt 0 (image_writes s)) (bytes_after s r) (vec_items s.memory)
+pub image_holds : (s : ImageStore) (r : Record) → 0 < image_writes s → image_kept (image_after s r) ≡ r
+image_holds s r h = ap record_or (after_told s r h)
 
--- from what was read, and from what formatting answered and put
-pub wrote : (s : ImageStore) (r : Record) (m : Image) (done : Bool) (answer : Result (Unit {0}) Refusal) (put : List ℕ) → Some m ≡ decoded (vec_items s.memory) → (m.writes ≢ 0)
-    → answer ≡ format_answer (vec_items s.memory) → done ≡ is_ok answer → put ≡ formatted r (m.writes - 1) (vec_items s.memory) → Wrote s r done put
-wrote s r m done answer put e some a d p =
-    let items = vec_items s.memory in
-    let w : m.writes ≡ image_writes s = ap writes_or e in
-    let more : 0 < image_writes s = omega arith in
-    let left : ltb 0 (image_writes s) ≡ true = lt-ltb 0 (image_writes s) more in
-    let room : has_room items ≡ true = le-leb 68 (length items) (image_long items m (sym e)) in
-    let ok : done ≡ true = d ∙ ap is_ok (a ∙ ap (λ (b : Bool). provided b ShortMemory (Ok tt)) room) in
-    let is : put ≡ bytes_after s r = p ∙ cond-true (has_room items) (image_over r (m.writes - 1) items) items room ∙ ap (λ (n : ℕ). image_over r (n - 1) items) w in
-    record {
-      test = ok ∙ sym left;
-      after = (λ i. record { memory = with_items s.memory (is i) }) ∙ sym (cond-true (nat_lt 0 (image_writes s)) (image_after s r) s left);
-      bytes = ap (λ (xs : List ℕ). vec_items (with_items s.memory xs)) is ∙ after_bytes s r more ∙ sym (cond-true (nat_lt 0 (image_writes s)) (bytes_after s r) items left);
-    }
+one_less : (s : ImageStore) (r : Record) → 0 < image_writes s → image_writes (image_after s r) ≡ image_writes s - 1
+one_less s r h = ap writes_or (after_told s r h)
+
+pub image_most : (s : ImageStore) (r : Record) → 0 < image_writes s → image_writes (image_after s r) ≤ image_writes s
+image_most s r h = omega (arith, one_less s r h)
+
+pub image_least : (s : ImageStore) (r : Record) → 0 < image_writes s → image_writes s - 1 ≤ image_writes (image_after s r)
+image_least s r h = omega (arith, one_less s r h)

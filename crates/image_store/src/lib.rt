@@ -1,11 +1,9 @@
 // A store in a memory that holds an image.
 #![tactic(auto)]
 
-ghost use Rattle.std.specs.Prelude.{◌≡◌, ltb, if◌then◌else◌, nat_lt};
-ghost use Rattle.std.proofs.Common.{ap, arith};
+ghost use Rattle.std.specs.Prelude.{◌≡◌, if◌then◌else◌, nat_lt};
 ghost use Rattle.image_store.specs.Stores.{image_on, image_kept, image_writes, bytes_after, image_after};
-ghost use Rattle.image.specs.Images.{record_or, writes_or};
-ghost use Rattle.image_store.specs.StoresLemmas.{after_told};
+ghost use Rattle.image_store.specs.StoreLaws.{image_holds, image_most, image_least};
 
 use image::format::format_record;
 use image::reading::read_image;
@@ -42,11 +40,11 @@ impl Store for ImageStore {
 
     ghost after = { image_after };
 
-    ghost holds = { λ s r h. ap record_or (after_told s r h) };
+    ghost holds = { image_holds };
 
-    ghost most = { λ s r h. omega (arith, ap writes_or (after_told s r h)) };
+    ghost most = { image_most };
 
-    ghost least = { λ s r h. omega (arith, ap writes_or (after_told s r h)) };
+    ghost least = { image_least };
 
     fn read(&mut self) -> Record {
         match read_image(self.memory.as_slice()) {
@@ -65,8 +63,8 @@ impl Store for ImageStore {
     // Every byte of the memory is told: the image of the record, with one write less, and the bytes after it as they were.
     fn write(&mut self, r: Record) -> bool
         ensures test { result ≡ nat_lt 0 (image_writes self.old) }
-        ensures after { self.new ≡ (if ltb 0 (image_writes self.old) then image_after self.old r else self.old) }
-        ensures bytes { self.new.memory.items ≡ (if ltb 0 (image_writes self.old) then bytes_after self.old r else self.old.memory.items) }
+        ensures after { self.new ≡ (if nat_lt 0 (image_writes self.old) then image_after self.old r else self.old) }
+        ensures bytes { self.new.memory.items ≡ (if nat_lt 0 (image_writes self.old) then bytes_after self.old r else self.old.memory.items) }
     {
         let Some(image) = read_image(self.memory.as_slice()) else {
             return false;

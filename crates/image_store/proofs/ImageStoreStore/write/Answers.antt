@@ -1,7 +1,7 @@
 use Rattle.std.proofs.Common.{◌≡◌, ℕ, ◌-◌, List, ap, ◌∙◌, rules}
 use Rattle.image.specs.Formats.{format_answer, formatted}
 use Rattle.image.specs.Images.{decoded}
-use Rattle.image_store.specs.StoresLemmas.{wrote}
+use Rattle.image_store.proofs.Stores.{wrote}
 use Rattle.image_store.proofs.ImageStoreStore.write.Goals as goal
 
 pub returns : goal.returns
