@@ -1,5 +1,5 @@
 -- A slip as the code prints it: was_ready, writes, prints.
-use Rattle.std.proofs.Common.{◌≡◌, ℕ, ◌*◌, Bool, true, false, cond, ◌&&◌, List, length, is_some, Some, None, Option, sym, refl, ap, ◌∙◌, arith}
+use Rattle.std.proofs.Common.{◌≡◌, ℕ, ◌*◌, Bool, true, false, cond, List, length, is_some, Some, None, Option, sym, refl, ap, ◌∙◌, arith}
 use Rattle.std.proofs.lemmas.Bool.{cond-true}
 use Rattle.decimal.specs.declared.blocks.Blocks.{Blocks}
 use Rattle.decimal.specs.Slips.{writable, slip_of}

@@ -1,9 +1,9 @@
-use Rattle.std.proofs.Common.{◌≡◌, ◌≤◌, true, length, ap, ◌∙◌, arith}
+use Rattle.std.proofs.Common.{◌≡◌, ◌≤◌, length, ap, ◌∙◌, arith}
 use Rattle.token.proofs.Numbered.{length-numbered}
 use Rattle.token.specs.SubClasses.{sub_class_named}
 use Rattle.token.specs.FirstBlocks.{first_fits}
 use Rattle.sealing.proofs.Walk.{few}
-use Rattle.sealing.specs.Suites.{Suite, Sound, suite}
+use Rattle.sealing.specs.Suites.{Sound, suite}
 use Rattle.sale.specs.Sales.{parts_sold}
 use Rattle.sale.specs.Slips.{further_sold, first_sold, tag_sold}
 use Rattle.sale.proofs.Filling.{tag_is, is_packed, filled}
