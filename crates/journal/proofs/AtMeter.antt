@@ -1,6 +1,6 @@
 -- One call at the meter: StepsTo, what it changes and that it was answered rightly; took, performed, by rules; entered, used, by
 -- what a call comes to; entry_steps, spend_steps.
-use Rattle.std.proofs.Common.{◌≡◌, ℕ, ◌+◌, ◌-◌, ◌≤◌, max, Bool, true, false, cond, not, ◌||◌, eqb, ltb, ◌⊎◌, List, [], ◌∷◌, Some, None, Ok, Err, vec_items, Option, Result, sym, refl, ap, ◌∙◌, subst, ⊎_elim, arith}
+use Rattle.std.proofs.Common.{◌≡◌, ℕ, ◌+◌, ◌-◌, ◌≤◌, max, Bool, true, false, cond, not, ◌||◌, eqb, ltb, List, [], ◌∷◌, Some, None, Ok, Err, vec_items, Option, Result, sym, refl, ap, ◌∙◌, subst, ⊎_elim, arith}
 use Rattle.std.proofs.lemmas.Bool.{lt-ltb, ltb-true, ltb-false, leb-true}
 use Rattle.std.proofs.lemmas.Bool.Decides.{eqb_tells}
 use Rattle.refusal.specs.Checks.{AllKept, FirstBroken}
@@ -33,7 +33,7 @@ use Rattle.journal.specs.declared.calls.Entry.{Entry}
 use Rattle.journal.specs.declared.calls.Usage.{Usage}
 use Rattle.journal.specs.declared.calls.Line.{Line}
 use Rattle.journal.specs.Lines.{times}
-use Rattle.journal.specs.Standings.{Desk, standing_after, desk_after}
+use Rattle.journal.specs.Standings.{standing_after}
 use Rattle.journal.specs.Law.{OneWrite, Right}
 use Rattle.journal.specs.Steps.{next_of, entry_answer, spend_answer, Moved}
 use Rattle.journal.proofs.Accounts.{Account}

@@ -1,5 +1,5 @@
 -- One call at the till: Deals-to, what it changes and that it was answered rightly; draw_deals, issue_deals, void_deals.
-use Rattle.std.proofs.Common.{◌≡◌, ℕ, ◌+◌, ◌≤◌, min, Bool, true, false, cond, ltb, List, [], ◌∷◌, length, Ok, Err, Result, sym, refl, ap, ◌∙◌, subst, arith}
+use Rattle.std.proofs.Common.{◌≡◌, ℕ, ◌+◌, ◌≤◌, min, Bool, true, false, cond, ltb, List, length, Ok, Err, Result, sym, refl, ap, ◌∙◌, subst, arith}
 use Rattle.std.proofs.lemmas.Bool.{ltb-true, cond-true}
 use Rattle.std.proofs.lemmas.Bool.Decides.{nat_tests}
 use Rattle.refusal.specs.Checks.{AllKept, FirstBroken}
@@ -13,7 +13,7 @@ use Rattle.entry.specs.Rules.{raisable}
 use Rattle.sealing.specs.Suites.{Suite}
 use Rattle.sale.specs.Sales.{sale_rules}
 use Rattle.sale.specs.Slips.{slip_length, slip_for}
-use Rattle.till.specs.Counting.{draw_rules, drawn, after_draw, after_issue, after_void}
+use Rattle.till.specs.Counting.{draw_rules, drawn}
 use Rattle.till.specs.declared.counts.Counts.{Counts}
 use Rattle.till.specs.declared.drawn.DrawnNumber.{DrawnNumber}
 use Rattle.journal.specs.declared.answers.Answer.{Answer}
@@ -25,7 +25,7 @@ use Rattle.journal.specs.declared.calls.Cancellation.{Cancellation}
 use Rattle.journal.specs.declared.calls.Line.{Line}
 use Rattle.journal.specs.declared.calls.Order.{Order}
 use Rattle.journal.specs.Hands.{held, one, is_in_hand, Gains, SameHand}
-use Rattle.journal.specs.Lines.{drawn_times, draws, rates_in, rates_issued, writes_after}
+use Rattle.journal.specs.Lines.{drawn_times, draws, writes_after}
 use Rattle.journal.specs.Standings.{World, Desk, desk_after}
 use Rattle.journal.specs.Law.{Right, one_up_to}
 use Rattle.journal.specs.Steps.{draw_answer, sold, issue_answer, SameDesk, Drew, Sold, Cancelled}

@@ -1,6 +1,6 @@
 -- Accounts, one line on. The meter's: Step, what one line changes; grow, rests, account_none. The till's: Dealt, till_grow, still,
 -- till_none.
-use Rattle.std.proofs.Common.{◌≡◌, ℕ, ◌+◌, ◌≤◌, max, ltb, leb, List, [], ◌∷◌, ◌++◌, length, None, sym, refl, ap, ◌∙◌, subst, arith}
+use Rattle.std.proofs.Common.{◌≡◌, ℕ, ◌+◌, ◌≤◌, max, ltb, List, [], ◌∷◌, ◌++◌, length, None, sym, refl, ap, ◌∙◌, subst, arith}
 use Rattle.std.proofs.lemmas.Bool.Decides.{nat_tests}
 use Rattle.window.specs.Recovery.{lowest}
 use Rattle.window.specs.Marks.{marked}
@@ -12,7 +12,7 @@ use Rattle.till.specs.declared.counts.Counts.{Counts}
 use Rattle.till.specs.declared.drawn.DrawnNumber.{DrawnNumber}
 use Rattle.till.specs.Counting.{no_counts}
 use Rattle.journal.specs.declared.calls.Line.{Line}
-use Rattle.journal.specs.Hands.{held, one, SameHand}
+use Rattle.journal.specs.Hands.{held, SameHand}
 use Rattle.journal.specs.Lines.{Effect, nothing, effect, Deal, idle, deal, times, drawn_times, draws, one_if, how_many, or_zero, highest_in}
 use Rattle.journal.specs.Law.{one_up_to}
 use Rattle.journal.proofs.Accounts.{Account, TillAccount}

@@ -1,14 +1,14 @@
 -- A slip that was issued and is due is taken: not_both, entry_answer_lem, honours.
-use Rattle.std.proofs.Common.{◌≡◌, ℕ, ◌+◌, Bool, true, false, not, ltb, List, [], ◌∷◌, ◌++◌, get_or, take, Some, vec_items, sym, refl, ap, ◌∙◌, subst, append_assoc, arith}
+use Rattle.std.proofs.Common.{◌≡◌, ℕ, ◌+◌, true, false, not, ltb, List, [], ◌∷◌, ◌++◌, get_or, take, vec_items, sym, ap, ◌∙◌, subst, append_assoc, arith}
 use Rattle.std.proofs.lemmas.Bool.{lt-ltb, le-leb}
 use Rattle.refusal.specs.Checks.{Rule, rule, AllKept, FirstBroken}
 use Rattle.refusal.specs.declared.Refusal.{Refusal}
 use Rattle.window.proofs.Recovery.{stands_for}
 use Rattle.sealing.specs.Suites.{Suite, Sound}
-use Rattle.entry.specs.Reading.{slip_read, amount_read}
+use Rattle.entry.specs.Reading.{slip_read}
 use Rattle.entry.specs.Rules.{Standing, entry_rules}
 use Rattle.meter.specs.declared.answers.Taken as answers-taken
-use Rattle.sale.specs.Slips.{slip_text, slip_length, slip_for}
+use Rattle.sale.specs.Slips.{slip_text}
 use Rattle.sale.specs.declared.orders.Sale.{Sale}
 use Rattle.readback.specs.Back.{amount_sold, open_rules, Reads}
 use Rattle.readback.proofs.Ruling.{reads_anywhere, slip_digits}
@@ -16,14 +16,14 @@ use Rattle.journal.specs.declared.answers.Answer.{Answer}
 use Rattle.journal.specs.declared.answers.Answer.TheVariants.{Drawn, Issued, Voided, Taken, Spent, NotInHand, Refused}
 use Rattle.journal.specs.declared.answers.Issued as answers-issued
 use Rattle.journal.specs.declared.calls.Call.{Call}
-use Rattle.journal.specs.declared.calls.Call.TheVariants.{Draw, Issue, Void, Enter, Spend}
+use Rattle.journal.specs.declared.calls.Call.TheVariants.{Issue, Enter}
 use Rattle.journal.specs.declared.calls.Entry.{Entry}
 use Rattle.journal.specs.declared.calls.Line.{Line}
 use Rattle.journal.specs.declared.calls.Order.{Order}
 use Rattle.journal.specs.Telling.{Told}
-use Rattle.journal.specs.Lines.{rates_issued, credit_after, AtEach}
+use Rattle.journal.specs.Lines.{rates_issued, AtEach}
 use Rattle.journal.specs.Standings.{Desk, standing_after, desk_after}
-use Rattle.journal.specs.Law.{call_rules, held_for, EntryTaken, SlipIssued, RightBy, Right, Due, Honoured}
+use Rattle.journal.specs.Law.{call_rules, held_for, EntryTaken, SlipIssued, RightBy, Right, Honoured}
 
 -- no rule is broken where all are kept
 broken_among : (before after : List Rule) (e : Refusal) → AllKept (before ++ rule e false ∷ after) → ⊥

@@ -1,5 +1,5 @@
 -- One call more: core_none, core_more.
-use Rattle.std.proofs.Common.{◌≡◌, ℕ, Bool, true, false, cond, List, [], ◌∷◌, ◌++◌, length, Ok, Err, vec_items, Result, sym, refl, ap, ◌∙◌, subst}
+use Rattle.std.proofs.Common.{◌≡◌, ℕ, Bool, true, false, cond, List, [], ◌∷◌, ◌++◌, length, Ok, Err, vec_items, Result, refl, ap, ◌∙◌}
 use Rattle.refusal.specs.declared.Refusal.{Refusal}
 use Rattle.sealing.specs.Suites.{Suite}
 use Rattle.entry.specs.Judging.{judged}
@@ -7,19 +7,18 @@ use Rattle.meter.specs.Answering.{taking, spend_judged, spending}
 use Rattle.meter.specs.declared.answers.Taken.{Taken}
 use Rattle.meter.specs.declared.answers.Spent.{Spent}
 use Rattle.till.specs.Counting.{drawn}
-use Rattle.till.specs.declared.drawn.DrawnNumber.{DrawnNumber}
 use Rattle.journal.specs.declared.answers.Answer.{Answer}
 use Rattle.journal.specs.declared.answers.Answer.TheVariants as answer
 use Rattle.journal.specs.declared.answers.Issued.{Issued}
 use Rattle.journal.specs.declared.calls.Call.{Call}
 use Rattle.journal.specs.declared.calls.Call.TheVariants.{Draw, Issue, Void, Enter, Spend}
 use Rattle.journal.specs.declared.calls.Line.{Line}
-use Rattle.journal.specs.Hands.{held, is_in_hand, SameHand}
+use Rattle.journal.specs.Hands.{held, is_in_hand}
 use Rattle.journal.specs.Lines.{effect_of, effect, nothing, deal_of, deal, idle, writes_after}
 use Rattle.journal.specs.Standings.{World, NewWorld}
 use Rattle.journal.specs.Law.{Right}
 use Rattle.journal.specs.Steps.{entry_answer, spend_answer, draw_answer, sold, issue_answer, SameMeter, SameDesk, Performed}
-use Rattle.journal.proofs.Accounts.{Account, TillAccount, Core}
+use Rattle.journal.proofs.Accounts.{Core}
 use Rattle.journal.proofs.Splits.{at_each_none, at_each_push}
 use Rattle.journal.proofs.Growing.{Step, Dealt, grow, rests, account_none, till_grow, still, till_none}
 use Rattle.journal.proofs.AtMeter.{StepsTo, entry_steps, spend_steps}

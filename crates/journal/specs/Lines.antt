@@ -2,7 +2,7 @@
 -- nothing, effect_of, effect; at the till: Deal, idle, deal_of, deal. A journal: total, one_if, how_many, times, drawn_times,
 -- issued_times, voided_times, draws, issues, voids, rates_issued, or_zero, highest_in, index_in, tariff_after, writes_after, credit_after;
 -- AtEach, what holds of each line by those before it.
-use Rattle.std.specs.Prelude.{◌≡◌, ℕ, ◌+◌, ◌-◌, max, cond, eqb, List, [], ◌∷◌, ◌++◌, Some, None, vec_items, sum_by, Option}
+use Rattle.std.specs.Prelude.{◌≡◌, ℕ, ◌+◌, ◌-◌, max, List, [], ◌∷◌, ◌++◌, Some, None, vec_items, sum_by, Option}
 use Rattle.token.specs.SubClasses.{sub_class_named}
 use Rattle.token.specs.declared.tariff.Tariff.{Tariff}
 use Rattle.record.specs.Changes.{tariff_with}

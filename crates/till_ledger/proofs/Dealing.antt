@@ -1,6 +1,6 @@
 -- Single calls at a till with a hand, over plain values: same_till, issue_same; drawn_performed, undrawn_performed; issued_performed,
 -- unissued_performed; voided_performed; absent_issue, absent_void, of a number that is not in hand.
-use Rattle.std.proofs.Common.{◌≡◌, ℕ, ◌+◌, min, Bool, true, false, cond, ◌&&◌, ltb, List, Ok, Err, Result, sym, refl, ap, ◌∙◌, subst, arith}
+use Rattle.std.proofs.Common.{◌≡◌, ℕ, ◌+◌, Bool, true, false, cond, ◌&&◌, ltb, List, Ok, Err, Result, sym, refl, ap, ◌∙◌, subst, arith}
 use Rattle.std.proofs.lemmas.Bool.{cond-true, cond-false}
 use Rattle.refusal.specs.Checks.{provided}
 use Rattle.refusal.specs.declared.Refusal.{Refusal}
@@ -20,13 +20,12 @@ use Rattle.till.specs.declared.counts.Counts.{Counts}
 use Rattle.till.specs.declared.drawn.DrawnNumber.{DrawnNumber}
 use Rattle.till.specs.declared.drawn.NotIssued.{NotIssued}
 use Rattle.till.specs.declared.selling.Till.{Till}
-use Rattle.journal.specs.declared.answers.Answer.{Answer}
 use Rattle.journal.specs.declared.answers.Answer.TheVariants as answer
 use Rattle.journal.specs.declared.answers.Issued.{Issued}
 use Rattle.journal.specs.declared.calls.Call.TheVariants.{Draw, Issue, Void}
 use Rattle.journal.specs.declared.calls.Cancellation.{Cancellation}
 use Rattle.journal.specs.declared.calls.Order.{Order}
-use Rattle.journal.specs.Hands.{held, is_in_hand, Gains, SameHand}
+use Rattle.journal.specs.Hands.{held, is_in_hand, Gains}
 use Rattle.journal.specs.Standings.{World}
 use Rattle.journal.specs.Steps.{draw_answer, sold, issue_answer, SameMeter, Drew, Sold, Cancelled, Performed}
 use Rattle.till_ledger.specs.Ledgers.{desk_world}

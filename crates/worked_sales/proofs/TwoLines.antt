@@ -1,5 +1,5 @@
 -- The worked list of calls, step by step: bench_sound, worked.
-use Rattle.std.proofs.Common.{◌≡◌, ℕ, ◌+◌, ◌<◌, List, [], ◌∷◌, ◌++◌, refl, inl, arith, lit<, lit≤, rules}
+use Rattle.std.proofs.Common.{◌≡◌, List, [], ◌∷◌, refl, inl, arith, lit<, lit≤, rules}
 use Rattle.decimal.specs.Digits.{padded}
 use Rattle.decimal.specs.CheckDigits.{product, mapped, passes, running, whole, check_digit}
 use Rattle.decimal.specs.Slips.{groups_after, text_of}
@@ -10,11 +10,9 @@ use Rattle.sale.specs.Sales.{salable}
 use Rattle.sale.specs.Slips.{tag_sold, sealed_blocks}
 use Rattle.till.specs.Counting.{drawn}
 use Rattle.till.specs.declared.drawn.DrawnNumber.{DrawnNumber}
-use Rattle.journal.specs.Hands.{held, one, Gains}
-use Rattle.journal.specs.Law.{Law, Due}
+use Rattle.journal.specs.Hands.{Gains}
 use Rattle.journal.specs.Standings.{World, NewWorld}
 use Rattle.journal.specs.Steps.{sold, Performed}
-use Rattle.journal.specs.declared.answers.Answer.TheVariants.{Drawn, Issued}
 use Rattle.journal.specs.declared.calls.Call.TheVariants.{Draw, Issue}
 use Rattle.journal.proofs.Keeping.{opened, continued}
 use Rattle.worked.specs.Bench.{bench_suite, blank}

@@ -1,6 +1,6 @@
 -- A list of calls worked out by hand, of a draw and an issue: bench_start, order, drawn_first, issued_first, bench_end; and that all that
 -- the law asks for can be met: WorkedRun.
-use Rattle.std.specs.Prelude.{ℕ, List, [], ◌∷◌, ◌++◌, replicate, codes}
+use Rattle.std.specs.Prelude.{[], ◌∷◌, ◌++◌, replicate, codes}
 use Rattle.till.specs.Counting.{no_counts}
 use Rattle.journal.specs.declared.answers.Answer.TheVariants.{Drawn, Issued}
 use Rattle.journal.specs.declared.calls.Call.TheVariants.{Draw, Issue}

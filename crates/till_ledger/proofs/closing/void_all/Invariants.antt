@@ -1,4 +1,4 @@
-use Rattle.std.proofs.Common.{◌≡◌, ◌+◌, ◌≤◌, min, vec_len}
+use Rattle.std.proofs.Common.{◌≡◌, ◌≤◌, vec_len}
 use Rattle.till_ledger.specs.Closing.{voided_till}
 use Rattle.till_ledger.proofs.closing.void_all.Given as goal
 

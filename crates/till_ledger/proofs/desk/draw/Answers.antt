@@ -1,4 +1,4 @@
-use Rattle.std.proofs.Common.{◌≡◌, refl}
+use Rattle.std.proofs.Common.{refl}
 use Rattle.till_ledger.proofs.Dealing.{same_till, drawn_performed, undrawn_performed}
 use Rattle.till_ledger.proofs.desk.draw.Goals as goal
 

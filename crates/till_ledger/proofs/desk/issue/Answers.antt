@@ -1,4 +1,4 @@
-use Rattle.std.proofs.Common.{◌≡◌, vec_items, refl, ◌∙◌}
+use Rattle.std.proofs.Common.{vec_items, refl, ◌∙◌}
 use Rattle.till.specs.Tills.{till_suite}
 use Rattle.till_ledger.proofs.Dealing.{issued_performed, unissued_performed, issue_same}
 use Rattle.till_ledger.proofs.desk.issue.Goals as goal

@@ -1,4 +1,3 @@
-use Rattle.std.proofs.Common.{◌≡◌, refl}
 use Rattle.till_ledger.proofs.Dealing.{same_till, voided_performed}
 use Rattle.till_ledger.proofs.desk.void.Goals as goal
 

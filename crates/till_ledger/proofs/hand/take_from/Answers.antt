@@ -1,5 +1,5 @@
 use Rattle.std.proofs.Common.{◌≡◌, vec_items, sym, ap, ◌∙◌, subst, rules}
-use Rattle.journal.specs.Hands.{held, Gains}
+use Rattle.journal.specs.Hands.{Gains}
 use Rattle.till_ledger.proofs.Hands.{gains_removed}
 use Rattle.till_ledger.proofs.hand.take_from.Goals as goal
 
