@@ -1,6 +1,6 @@
 -- A ledger that keeps the law agrees with its journal: answers that are right tell the amounts of the law, taken_right and
 -- spent_right; total_same; kept_agrees.
-use Rattle.std.proofs.Common.{◌≡◌, ℕ, ◌+◌, Bool, true, ◌&&◌, List, [], ◌∷◌, ◌++◌, length, get_or, vec_items, sym, refl, ap, ◌∙◌, subst, arith, eq-eqb}
+use Rattle.std.proofs.Common.{◌≡◌, ℕ, Bool, true, ◌&&◌, List, [], ◌∷◌, length, get_or, vec_items, sym, refl, ap, ◌∙◌, subst, arith, eq-eqb}
 use Rattle.std.proofs.lemmas.List.Sums.{sum_by-cons}
 use Rattle.cipher.specs.Clearing.{as_is}
 use Rattle.authenticator.specs.Sum.{byte_sum}
@@ -10,11 +10,10 @@ use Rattle.entry.specs.Reading.{amount_read}
 use Rattle.entry.specs.Rules.{Standing}
 use Rattle.store.specs.Plain.{plain_kept, plain_writes}
 use Rattle.meter.specs.Meters.{suite_at}
-use Rattle.till.specs.Tills.{till_suite}
 use Rattle.journal.specs.Telling.{Told}
 use Rattle.journal.specs.Lines.{effect, effect_of, total, text_of, amount_named, AtEach}
 use Rattle.journal.specs.Standings.{Desk}
-use Rattle.journal.specs.Law.{RightBy, Right, Law}
+use Rattle.journal.specs.Law.{RightBy, Law}
 use Rattle.journal.specs.declared.answers.Answer.{Answer}
 use Rattle.journal.specs.declared.answers.Answer.TheVariants.{Drawn, Issued, Voided, Taken, Spent, NotInHand, Refused}
 use Rattle.journal.specs.declared.calls.Call.{Call}

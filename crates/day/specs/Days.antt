@@ -6,8 +6,6 @@ use Rattle.authenticator.specs.Sum.{byte_sum}
 use Rattle.authenticator.specs.declared.byte_sum.ByteSum.{ByteSum}
 use Rattle.store.specs.Plain.{plain_kept, plain_writes}
 use Rattle.store.specs.declared.plain.PlainStore.{PlainStore}
-use Rattle.meter.specs.Meters.{suite_at}
-use Rattle.till.specs.Tills.{till_suite}
 use Rattle.journal.specs.Standings.{NewWorld}
 use Rattle.journal.specs.declared.calls.Line.{Line}
 use Rattle.till_ledger.specs.Ledgers.{journal_of, start_of, Lawful}

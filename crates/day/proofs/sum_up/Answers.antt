@@ -1,11 +1,8 @@
-use Rattle.std.proofs.Common.{◌≡◌, ℕ, List, length, vec_items, ap, ◌∙◌}
+use Rattle.std.proofs.Common.{◌≡◌, length, vec_items, ap, ◌∙◌}
 use Rattle.store.specs.Plain.{plain_kept}
-use Rattle.till.specs.declared.counts.Counts.{Counts}
-use Rattle.till.specs.declared.drawn.DrawnNumber.{DrawnNumber}
 use Rattle.till_ledger.specs.Ledgers.{journal_of}
 use Rattle.day.specs.Balances.{balance_of, agreeing}
 use Rattle.day.specs.Days.{DayLedger}
-use Rattle.day.specs.declared.sums.Balance.{Balance}
 use Rattle.day.proofs.Agreement.{kept_agrees}
 use Rattle.day.proofs.sum_up.Goals as goal
 

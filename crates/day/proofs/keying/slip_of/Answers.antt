@@ -1,4 +1,4 @@
-use Rattle.std.proofs.Common.{◌≡◌, true, false, is_some, sym, ◌∙◌, rules}
+use Rattle.std.proofs.Common.{◌≡◌, true, false, is_some, rules}
 use Rattle.day.proofs.Slips.{slip_found, slip_later, slip_none}
 use Rattle.day.proofs.keying.slip_of.Goals as goal
 
