@@ -14,9 +14,6 @@ use Rattle.image.proofs.Halves.{pairs-halves, halves_pairs}
 abbrev told : Bool → Bool → Option Bool → (Bool → Option Tariff) → Option (Option Tariff)
 told none zero flag make = cond none (cond zero (Some None) None) (and_then flag (λ b. and_then (make b) (λ t. Some (Some t))))
 
-told_some : (none zero : Bool) (flag : Option Bool) (make : Bool → Option Tariff) (b : Bool) (t : Tariff) → none ≡ false → flag ≡ Some b → make b ≡ Some t → told none zero flag make ≡ Some (Some t)
-told_some none zero flag make b t e p q = rw (e, p, q) refl
-
 flag_there : (b : Bool) → flag_of (cond b 1 0) ≡ Some b
 flag_there true = refl
 flag_there false = refl
@@ -24,10 +21,8 @@ flag_there false = refl
 pub tariff_there : (t : Option Tariff) → tariff_in (tariff_bytes t) ≡ Some t
 tariff_there None = refl
 tariff_there (Some t) =
-    let v = tariff_bytes (Some t) in
     let some : eqb t.count 0 ≡ false = ne_eqb t.count 0 (λ e. omega (arith, (limited t).some)) in
-    told_some (eqb t.count 0) (all_zero v) (flag_of (cond t.complete 1 0)) (λ b. tariff_of b t.month t.multiplier t.count (pairs (drop 4 v))) t.complete t
-    some (flag_there t.complete) (again t t.complete t.count (pairs (drop 4 v)) refl refl (pairs-halves t.prices))
+    rw (some, flag_there t.complete, again t t.complete t.count (pairs (halves t.prices)) refl refl (pairs-halves t.prices)) refl
 
 -- a tariff that bytes told, or that they told that there is none
 record Told (none zero : Bool) (flag : Option Bool) (make : Bool → Option Tariff) (t : Tariff) : Type 0 where
