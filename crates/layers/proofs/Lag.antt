@@ -1,14 +1,14 @@
 -- How far a write-behind layer runs ahead, one write after the other: lags. It takes two laws of the store below: a write
 -- that is done is then meant, and lowers the count by one at most.
-use Rattle.std.proofs.Common.{◌≡◌, ℕ, ◌+◌, ◌-◌, ◌<◌, ◌≤◌, Bool, true, false, cond, ltb, List, [], ◌∷◌, ◌++◌, length, Some, None, sym, refl, ap, ◌∙◌, subst, append_assoc, append-nil, arith, length-append}
+use Rattle.std.proofs.Common.{◌≡◌, ℕ, ◌-◌, ◌<◌, ◌≤◌, Bool, true, false, cond, ltb, List, [], ◌∷◌, ◌++◌, length, sym, refl, ap, ◌∙◌, subst, append_assoc, append-nil, arith, length-append}
 use Rattle.std.proofs.lemmas.Bool.{and_parts, ltb-true, lt-ltb}
 use Rattle.refusal.proofs.Making.{holds}
 use Rattle.record.specs.declared.Record.{Record}
 use Rattle.layers.specs.declared.length.Length.{Length}
-use Rattle.layers.specs.declared.write_behind.Kept.{Kept}
 use Rattle.layers.specs.declared.write_behind.WriteBehind.{WriteBehind}
 use Rattle.layers.specs.Limits.{lengthable}
-use Rattle.layers.specs.WriteBehind.{behind_over, newest_of, count_of, keeping, writing, behind_kept, only_keeps, behind_after}
+use Rattle.layers.specs.WriteBehind.{behind_over, count_of, keeping, writing, behind_kept, only_keeps, behind_after}
+use Rattle.layers.specs.WriteBehindLaws.{none_newest, some_newest, behind_least}
 use Rattle.layers.specs.Lag.{last_of, Falls, all_written, Lags, LagLaw}
 
 last_append : (first : Record) (xs ys : List Record) → last_of first (xs ++ ys) ≡ last_of (last_of first xs) ys
@@ -18,14 +18,6 @@ last_append first (x ∷ xs) ys = last_append x xs ys
 falls_push : (first : Record) (xs : List Record) (r : Record) → Falls first xs → r.credit < (last_of first xs).credit → Falls first (xs ++ r ∷ [])
 falls_push first [] r f h = (h, tt)
 falls_push first (x ∷ xs) r f h = (f.0, falls_push x xs r f.1 h)
-
-none_newest : (b : Bool) (r : Record) → newest_of b None r ≡ r
-none_newest true r = refl
-none_newest false r = refl
-
-some_newest : (b : Bool) (k : Kept) (r : Record) → b ≡ true → newest_of b (Some k) r ≡ k.newest
-some_newest true k r e = refl
-some_newest false k r e = absurd (let z : ◌≡◌ {A = ℕ} 0 1 = cc in omega arith)
 
 long : (k : Length) → 0 < k.value
 long k = ltb-true 0 k.value (and_parts _ _ (holds (lengthable k.value) k.ok)).0
@@ -72,17 +64,13 @@ module _ {S : Type 0} (kept : S → Record) (writes : S → ℕ) (after : S → 
   step_by true first rs s r e g w = kept_on first rs s r g w e
   step_by false first rs s r e g w = gone_below first rs s r w
 
-  left_by : (b : Bool) (s : WriteBehind S) (r : Record) → 0 < writes s.below → writes s.below - 1 ≤ writes (cond b (keeping s r) (writing after s r)).below
-  left_by true s r w = omega arith
-  left_by false s r w = least s.below r w
-
   runs : (first : Record) (done rs : List Record) (s : WriteBehind S) → Lags kept writes after first done s → length rs ≤ writes s.below → Lags kept writes after first (done ++ rs) (all_written kept writes after s rs)
   runs first done [] s g h = subst (λ (xs : List Record). Lags kept writes after first xs s) (sym (append-nil done)) g
   runs first done (r ∷ rs) s g h =
       let b = only_keeps kept writes s r in
       let some : 0 < writes s.below = omega arith in
       let next : WriteBehind S = behind_after kept writes after s r in
-      let more = runs first (done ++ r ∷ []) rs next (step_by b first done s r refl g some) (omega (arith, left_by b s r some)) in
+      let more = runs first (done ++ r ∷ []) rs next (step_by b first done s r refl g some) (omega (arith, behind_least kept writes after least s r some)) in
       subst (λ (xs : List Record). Lags kept writes after first xs (all_written kept writes after next rs)) (append_assoc done (r ∷ []) rs) more
 
   pub lags : LagLaw kept writes after

@@ -1,7 +1,7 @@
 // A layer that passes only so many writes more.
 ghost use Rattle.std.specs.Prelude.{◌≡◌};
 ghost use Rattle.layers.specs.Quota.{quota_over, quota_kept, quota_writes, quota_after};
-ghost use Rattle.std.proofs.Common.{rules};
+ghost use Rattle.layers.specs.QuotaLaws.{quota_holds, quota_most, quota_least};
 
 use record::Record;
 use store::Store;
@@ -39,11 +39,11 @@ impl<S: Store> Store for WriteQuota<S> {
 
     ghost after = { quota_after S.Store.after };
 
-    ghost holds = { Prim.search rules };
+    ghost holds = { quota_holds S.Store.kept S.Store.writes S.Store.after S.Store.holds };
 
-    ghost most = { Prim.search rules };
+    ghost most = { quota_most S.Store.kept S.Store.writes S.Store.after S.Store.most };
 
-    ghost least = { Prim.search rules };
+    ghost least = { quota_least S.Store.kept S.Store.writes S.Store.after S.Store.least };
 
     fn read(&mut self) -> Record {
         self.below.read()

@@ -1,7 +1,7 @@
 // A layer that writes behind: where a write lowers the credit, it may only keep the record, and write it below later.
 ghost use Rattle.std.specs.Prelude.{◌≡◌};
 ghost use Rattle.layers.specs.WriteBehind.{behind_over, behind_kept, behind_writes, behind_after, flushed};
-ghost use Rattle.std.proofs.Common.{rules};
+ghost use Rattle.layers.specs.WriteBehindLaws.{behind_holds, behind_most, behind_least};
 
 use crate::length::Length;
 use record::Record;
@@ -69,11 +69,11 @@ impl<S: Store> Store for WriteBehind<S> {
 
     ghost after = { behind_after S.Store.kept S.Store.writes S.Store.after };
 
-    ghost holds = { Prim.search rules };
+    ghost holds = { behind_holds S.Store.kept S.Store.writes S.Store.after S.Store.holds };
 
-    ghost most = { Prim.search rules };
+    ghost most = { behind_most S.Store.kept S.Store.writes S.Store.after S.Store.most };
 
-    ghost least = { Prim.search rules };
+    ghost least = { behind_least S.Store.kept S.Store.writes S.Store.after S.Store.least };
 
     fn read(&mut self) -> Record {
         match self.kept {
