@@ -2,7 +2,7 @@
 #![tactic(auto)]
 
 ghost use Rattle.std.specs.Prelude.{◌≡◌, ℕ};
-ghost use Rattle.sealing.specs.Suites.{suite};
+ghost use Rattle.sealing.specs.Suites.{suite_of};
 ghost use Rattle.entry.specs.Stages.{judged_by};
 
 use authenticator::Authenticator;
@@ -11,24 +11,23 @@ use decimal::reading::read_blocks;
 use record::Record;
 use refusal::Refusal;
 use sealing::opening::open_blocks;
-use sealing::settings::Settings;
+use sealing::sealer::Sealer;
 use weighing::weigh;
 use worth::Worth;
 
+pub mod index;
 mod weighing;
 pub mod worth;
 
 // All checks but that of the store, in the order of their numbers.
 pub fn judge<C: Cipher, A: Authenticator>(
-    settings: &Settings,
-    cipher: &C,
-    authenticator: &A,
+    sealer: &Sealer<C, A>,
     kept: Record,
     text: &[u8],
 ) -> Result<Worth, Refusal>
-    ensures { result ≡ judged_by (suite settings.now (C.enciphered cipher.now) (C.deciphered cipher.now) (A.tagged authenticator.now)) kept text.now }
+    ensures { result ≡ judged_by (suite_of C.enciphered C.deciphered A.tagged sealer.now) kept text.now }
 {
     let blocks = read_blocks(text)?;
-    let slip = open_blocks(cipher, &blocks)?;
-    weigh(settings, authenticator, kept, &slip)
+    let slip = open_blocks(&sealer.cipher, &blocks)?;
+    weigh(sealer, kept, &slip)
 }

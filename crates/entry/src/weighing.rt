@@ -1,39 +1,29 @@
 // A slip in clear, weighed against what the meter keeps.
-ghost use Rattle.std.specs.Prelude.{◌≡◌, ℕ, ◌<◌};
-ghost use Rattle.entry.specs.Rules.{raisable, authentic};
+ghost use Rattle.std.specs.Prelude.{◌≡◌, ℕ};
+ghost use Rattle.entry.specs.Rules.{authentic};
 ghost use Rattle.entry.specs.Stages.{tariff_from, reckoned, weighed};
 
+use crate::index::is_raisable;
 use crate::worth::Worth;
 use authenticator::Authenticator;
 use record::Record;
 use refusal::Refusal;
 use sealing::opening::Opened;
-use sealing::settings::Settings;
-use sealing::tag::tag_field;
+use sealing::sealer::Sealer;
 use token::subclass::SubClass;
 use token::tariff::Tariff;
 
-// Whether the slip leaves the function index within its two bytes.
-fn is_raisable(subclass: SubClass, index: u16) -> bool
-    ensures { result ≡ raisable subclass index }
-{
-    match subclass {
-        SubClass::Clear | SubClass::Enciphered => true,
-        SubClass::Rates => index < u16::MAX,
-    }
-}
-
 // Whether the tag field is the one of the number.
-fn is_authentic<A: Authenticator>(
-    settings: &Settings,
-    authenticator: &A,
+#[tactic(auto, unfolding(crate::specs::Rules::authentic))]
+fn is_authentic<C, A: Authenticator>(
+    sealer: &Sealer<C, A>,
     index: u16,
     slip: &Opened,
     number: u32,
 ) -> bool
-    ensures { result ≡ authentic settings.now (A.tagged authenticator.now) index slip.now number }
+    ensures { result ≡ authentic sealer.now.settings (A.tagged sealer.now.authenticator) index slip.now number }
 {
-    slip.first.tmac == tag_field(authenticator, settings, number, index, slip)
+    slip.first.tmac == sealer.tag_field(number, index, slip)
 }
 
 // The tariff that the slip brings, if its SubClass has one.
@@ -48,30 +38,30 @@ fn new_tariff(slip: &Opened) -> Result<Option<Tariff>, Refusal>
 }
 
 // What is left to check once the number is known.
-fn reckon<A: Authenticator>(
-    settings: &Settings,
-    authenticator: &A,
+#[tactic(auto, unfolding(crate::specs::Stages::reckoned))]
+fn reckon<C, A: Authenticator>(
+    sealer: &Sealer<C, A>,
     kept: Record,
     slip: &Opened,
     number: u32,
 ) -> Result<Worth, Refusal>
-    ensures { result ≡ reckoned settings.now (A.tagged authenticator.now) kept slip.now number }
+    ensures { result ≡ reckoned sealer.now.settings (A.tagged sealer.now.authenticator) kept slip.now number }
 {
-    if !is_authentic(settings, authenticator, kept.index, slip, number) {
+    if !is_authentic(sealer, kept.index, slip, number) {
         return Err(Refusal::WrongTag);
     }
     if kept.window.is_marked(number) {
         return Err(Refusal::AlreadyCounted);
     }
-    let multiplier = settings.multiplier(slip.first.config);
+    let multiplier = sealer.settings.multiplier(slip.first.config);
     if multiplier == 0 {
         return Err(Refusal::ReservedConfig);
     }
     let amount = u32::from(slip.first.amt) * u32::from(multiplier);
     let tariff = new_tariff(slip)?;
-    let Some(next) = kept.taking(number, amount, tariff, settings.ceiling) else {
-        return Err(Refusal::AboveCeiling);
-    };
+    let next = kept
+        .taking(number, amount, tariff, sealer.settings.ceiling)
+        .ok_or(Refusal::AboveCeiling)?;
     Ok(Worth {
         number,
         amount,
@@ -80,19 +70,20 @@ fn reckon<A: Authenticator>(
 }
 
 // The checks from the function index on.
-pub(crate) fn weigh<A: Authenticator>(
-    settings: &Settings,
-    authenticator: &A,
+#[tactic(auto, unfolding(crate::specs::Stages::weighed))]
+pub(crate) fn weigh<C, A: Authenticator>(
+    sealer: &Sealer<C, A>,
     kept: Record,
     slip: &Opened,
 ) -> Result<Worth, Refusal>
-    ensures { result ≡ weighed settings.now (A.tagged authenticator.now) kept slip.now }
+    ensures { result ≡ weighed sealer.now.settings (A.tagged sealer.now.authenticator) kept slip.now }
 {
     if !is_raisable(slip.subclass, kept.index) {
         return Err(Refusal::IndexFull);
     }
-    let Some(number) = kept.window.recover(slip.first.tstn) else {
-        return Err(Refusal::OutsideWindow);
-    };
-    reckon(settings, authenticator, kept, slip, number)
+    let number = kept
+        .window
+        .recover(slip.first.tstn)
+        .ok_or(Refusal::OutsideWindow)?;
+    reckon(sealer, kept, slip, number)
 }

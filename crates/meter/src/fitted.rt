@@ -6,6 +6,7 @@ use crate::parts::Parts;
 use crate::service::Meter;
 use authenticator::Authenticator;
 use cipher::Cipher;
+use sealing::sealer::Sealer;
 use sealing::settings::Settings;
 
 #[derive(Drop)]
@@ -19,10 +20,12 @@ impl<S, C, A> FittedMeter<S, C, A> {
     {
         FittedMeter {
             parts: Parts {
-                settings,
+                sealer: Sealer {
+                    settings,
+                    cipher,
+                    authenticator,
+                },
                 store,
-                cipher,
-                authenticator,
             },
         }
     }
@@ -48,15 +51,15 @@ impl<S, C, A> FittedMeter<S, C, A> {
 impl<S, C: Cipher + Drop, A: Authenticator + Drop> FittedMeter<S, C, A> {
     // Replaces the cipher by the one of its kind for the key and this MeterID.
     pub fn take_cipher_key(&mut self, key: &[u8; 16])
-        ensures { self.new ≡ with_cipher self.old (C.keyed key.now self.old.parts.settings.meter) }
+        ensures { self.new ≡ with_cipher self.old (C.keyed key.now self.old.parts.sealer.settings.meter) }
     {
-        self.parts.cipher = C::keyed(key, self.parts.settings.meter);
+        self.parts.sealer.take_cipher_key(key);
     }
 
     // Replaces the authenticator by the one of its kind for the key and this MeterID.
     pub fn take_authenticator_key(&mut self, key: &[u8; 16])
-        ensures { self.new ≡ with_authenticator self.old (A.keyed key.now self.old.parts.settings.meter) }
+        ensures { self.new ≡ with_authenticator self.old (A.keyed key.now self.old.parts.sealer.settings.meter) }
     {
-        self.parts.authenticator = A::keyed(key, self.parts.settings.meter);
+        self.parts.sealer.take_authenticator_key(key);
     }
 }

@@ -1,10 +1,8 @@
 // What a meter is made of.
-use sealing::settings::Settings;
+use sealing::sealer::Sealer;
 
 #[derive(Drop)]
 pub struct Parts<S, C, A> {
-    pub settings: Settings,
+    pub sealer: Sealer<C, A>,
     pub store: S,
-    pub cipher: C,
-    pub authenticator: A,
 }

@@ -1,5 +1,5 @@
 // A meter in service: it takes entries, spends and questions, and no keys.
-ghost use Rattle.std.specs.Prelude.{◌≡◌, ℕ, ltb, if◌then◌else◌, Ok, Err, nat_lt};
+ghost use Rattle.std.specs.Prelude.{◌≡◌, ℕ, if◌then◌else◌, Ok, Err, nat_lt};
 ghost use Rattle.refusal.specs.Checks.{provided};
 ghost use Rattle.refusal.specs.declared.Refusal.TheVariants.{NoWrites};
 ghost use Rattle.entry.specs.Judging.{judged};
@@ -26,7 +26,7 @@ pub struct Meter<S, C, A> {
 // Writes the record, if the store has a write left.
 fn keep<S: Store>(store: &mut S, next: Record) -> Result<(), Refusal>
     ensures answer { result ≡ provided (nat_lt 0 (S.writes store.old)) NoWrites (Ok tt) }
-    ensures after { store.new ≡ (if ltb 0 (S.writes store.old) then S.after store.old next else store.old) }
+    ensures after { store.new ≡ (if nat_lt 0 (S.writes store.old) then S.after store.old next else store.old) }
 {
     if store.write(next) {
         Ok(())
@@ -58,13 +58,7 @@ impl<S: Store, C: Cipher, A: Authenticator> Meter<S, C, A> {
         ensures after { self.new ≡ with_store self.old (entry_obeyed S.after (judged (suite_at C.enciphered C.deciphered A.tagged self.old) (S.kept self.old.parts.store) (S.writes self.old.parts.store) text.now) self.old.parts.store) }
     {
         let kept = self.parts.store.read();
-        let worth = judge(
-            &self.parts.settings,
-            &self.parts.cipher,
-            &self.parts.authenticator,
-            kept,
-            text,
-        )?;
+        let worth = judge(&self.parts.sealer, kept, text)?;
         keep(&mut self.parts.store, worth.next)?;
         Ok(Taken {
             number: worth.number,
@@ -74,6 +68,7 @@ impl<S: Store, C: Cipher, A: Authenticator> Meter<S, C, A> {
     }
 
     // Lowers the credit, or refuses to and stays as it was.
+    #[tactic(auto, unfolding(crate::specs::Answering::spend_judged))]
     pub fn spend(&mut self, amount: u32) -> Result<Spent, Refusal>
         ensures answer { result ≡ spending amount (spend_judged (S.kept self.old.parts.store) (S.writes self.old.parts.store) amount) }
         ensures after { self.new ≡ with_store self.old (spend_obeyed S.after (spend_judged (S.kept self.old.parts.store) (S.writes self.old.parts.store) amount) self.old.parts.store) }
@@ -82,9 +77,7 @@ impl<S: Store, C: Cipher, A: Authenticator> Meter<S, C, A> {
             return Err(Refusal::SpendAmount);
         }
         let kept = self.parts.store.read();
-        let Some(next) = kept.spending(amount) else {
-            return Err(Refusal::SpendAboveCredit);
-        };
+        let next = kept.spending(amount).ok_or(Refusal::SpendAboveCredit)?;
         keep(&mut self.parts.store, next)?;
         Ok(Spent {
             amount,

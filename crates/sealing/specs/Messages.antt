@@ -1,13 +1,11 @@
--- What a slip's tag is computed over, and the tag field: index_for, nonce, head, message; front and tag_field; said, what a
--- message under way holds.
-use Rattle.std.specs.Prelude.{ℕ, ◌+◌, ◌*◌, List, [], ◌∷◌, ◌++◌, take, slice_index}
+-- What a slip's tag is computed over, and the tag field: index_for, nonce, head, message; front and tag_field.
+use Rattle.std.specs.Prelude.{ℕ, ◌+◌, ◌*◌, List, [], ◌∷◌, ◌++◌, slice_index}
 use Rattle.std.specs.List.{flat_map}
 use Rattle.spelling.specs.Spelling.{bytes_of, spelled}
 use Rattle.token.specs.declared.subclass.SubClass.{SubClass}
 use Rattle.token.specs.declared.subclass.SubClass.TheVariants.{Clear, Enciphered, Rates}
 use Rattle.token.specs.declared.first.FirstBlock.{FirstBlock}
 use Rattle.sealing.specs.declared.settings.Settings.{Settings}
-use Rattle.sealing.specs.declared.buffer.Message.{Message}
 
 -- the function index in the message, by the index that the till or the meter keeps
 abbrev pub index_for : SubClass → ℕ → ℕ
@@ -36,7 +34,3 @@ front tag = slice_index tag 0 * 16777216 + slice_index tag 1 * 65536 + slice_ind
 -- the tag field of a slip in clear, for a number and the function index that goes into the message
 unfoldable pub tag_field : Settings → (List ℕ → List ℕ → List ℕ) → ℕ → ℕ → FirstBlock → List ℕ → ℕ
 tag_field s tagged number index first further = front (tagged (nonce s number) (message s number index first further))
-
--- what a message under way says
-abbrev pub said : Message → List ℕ
-said m = take m.len m.bytes

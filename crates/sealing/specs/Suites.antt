@@ -1,6 +1,6 @@
 -- What a till and its meter agree on: settings_of, the settings that values give; Suite, settings with the meanings of cipher and
--- authenticator, suite, one of its parts, and Sound, what these meanings keep; multiplier_of and amount_of, what an amount code is
--- worth.
+-- authenticator, suite, one of its parts, suite_of, what a sealer means, and Sound, what these meanings keep; sealer_of, with_cipher
+-- and with_authenticator, sealers made from parts and from sealers; multiplier_of and amount_of, what an amount code is worth.
 use Rattle.std.specs.Prelude.{◌≡◌, ℕ, ◌*◌, ◌^◌, ◌<◌, List, length, Result, slice_index}
 use Rattle.std.specs.Int.Digits.{AllBelowBase}
 use Rattle.refusal.specs.Checks.{found}
@@ -12,6 +12,7 @@ use Rattle.refusal.specs.Making.{where_so}
 use Rattle.sealing.specs.Limits.{allowed}
 use Rattle.sealing.specs.declared.settings.SettingValues.{SettingValues}
 use Rattle.sealing.specs.declared.settings.Settings.{Settings}
+use Rattle.sealing.specs.declared.sealer.Sealer.{Sealer}
 
 -- the settings of these values, where they are allowed
 abbrev pub settings_of : SettingValues → Result Settings Refusal
@@ -33,6 +34,22 @@ pub record Suite : Type 0 where
 
 abbrev pub suite : Settings → (Width → ℕ → ℕ) → (Width → ℕ → ℕ) → (List ℕ → List ℕ → List ℕ) → Suite
 suite settings enciphered deciphered tagged = record { settings = settings; enciphered = enciphered; deciphered = deciphered; tagged = tagged }
+
+-- what the settings, the cipher and the authenticator of a sealer mean, by the meanings of their kinds
+abbrev pub suite_of : {C A : Type 0} → (C → Width → ℕ → ℕ) → (C → Width → ℕ → ℕ) → (A → List ℕ → List ℕ → List ℕ) → Sealer C A → Suite
+suite_of enciphered deciphered tagged s = suite s.settings (enciphered s.cipher) (deciphered s.cipher) (tagged s.authenticator)
+
+-- a sealer of these parts
+abbrev pub sealer_of : {C A : Type 0} → Settings → C → A → Sealer C A
+sealer_of settings cipher authenticator = record { settings = settings; cipher = cipher; authenticator = authenticator }
+
+-- the same sealer with another cipher
+abbrev pub with_cipher : {C A : Type 0} → Sealer C A → C → Sealer C A
+with_cipher s cipher = sealer_of s.settings cipher s.authenticator
+
+-- the same sealer with another authenticator
+abbrev pub with_authenticator : {C A : Type 0} → Sealer C A → A → Sealer C A
+with_authenticator s authenticator = sealer_of s.settings s.cipher authenticator
 
 -- Enciphering stays below 2 to the width, and deciphering undoes it; a tag is sixteen bytes. Whatever is a cipher and an
 -- authenticator has this among its laws.

@@ -12,15 +12,13 @@ const MOST: u16 = 10_000;
 fn is_within(multipliers: &[u16; 4]) -> bool
     ensures { result ≡ within multipliers.now }
 {
-    let [a, b, c, d] = *multipliers;
-    a <= MOST && b <= MOST && c <= MOST && d <= MOST
+    multipliers.iter().all(|multiplier| *multiplier <= MOST)
 }
 
 fn is_some_open(multipliers: &[u16; 4]) -> bool
     ensures { result ≡ some_open multipliers.now }
 {
-    let [a, b, c, d] = *multipliers;
-    a > 0 || b > 0 || c > 0 || d > 0
+    multipliers.iter().any(|multiplier| *multiplier > 0)
 }
 
 impl Settings {
@@ -46,9 +44,9 @@ impl Settings {
     pub fn multiplier(&self, config: u8) -> u16
         ensures { result ≡ multiplier_of self.now config }
     {
-        match self.multipliers.get(usize::from(config)) {
-            Some(multiplier) => *multiplier,
-            None => 0,
-        }
+        self.multipliers
+            .get(usize::from(config))
+            .copied()
+            .unwrap_or(0)
     }
 }

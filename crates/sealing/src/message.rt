@@ -1,42 +1,25 @@
 // Nonce and message of a slip, byte by byte.
-ghost use Rattle.std.specs.Prelude.{◌≡◌, ◌+◌, ◌*◌, ◌≤◌, [], ◌++◌, length};
-ghost use Rattle.sealing.specs.Messages.{said, nonce, head, message};
+ghost use Rattle.std.specs.Prelude.{◌≡◌, ◌+◌, ◌*◌, ◌≤◌, ◌++◌, length};
+ghost use Rattle.arrayvec.specs.ArrayVec.{array_vec_len};
+ghost use Rattle.sealing.specs.Messages.{nonce, head, message};
 
-use crate::buffer::Message;
 use crate::settings::Settings;
+use arrayvec::ArrayVec;
 use token::first::FirstBlock;
 
 // The origin that every token names.
 const ORIGIN: u8 = 1;
 
-impl Message {
-    fn new() -> Message
-        ensures value { said result ≡ [] }
-        ensures len { result.len ≡ 0 }
-    {
-        Message {
-            bytes: [0; 51],
-            len: 0,
-        }
-    }
+// At most 51 bytes: the head and three further blocks.
+pub(crate) type Message = ArrayVec<u8, 51>;
 
-    fn push(&mut self, more: &[u8])
-        requires { self.old.len + length more.now ≤ 51 }
-        ensures value { said self.new ≡ said self.old ++ more.now }
-        ensures len { self.new.len ≡ self.old.len + length more.now }
-    {
-        let end = self.len + more.len();
-        self.bytes[self.len..end].copy_from_slice(more);
-        self.len = end;
-    }
-
-    // What the message says.
-    pub fn as_slice(&self) -> &[u8]
-        ensures value { result.now ≡ said self.now }
-        ensures few { length result.now ≤ 51 }
-    {
-        &self.bytes[0..self.len]
-    }
+// Appends bytes, for which there is room.
+fn append(message: &mut Message, more: &[u8])
+    requires { array_vec_len message.old + length more.now ≤ 51 }
+    ensures value { message.new.items ≡ message.old.items ++ more.now }
+    ensures len { array_vec_len message.new ≡ array_vec_len message.old + length more.now }
+{
+    message.try_extend_from_slice(more).unwrap();
 }
 
 pub(crate) fn nonce_for(settings: &Settings, number: u32) -> [u8; 12]
@@ -49,18 +32,18 @@ pub(crate) fn nonce_for(settings: &Settings, number: u32) -> [u8; 12]
 
 // The message up to the further blocks.
 fn head_of(settings: &Settings, number: u32, index: u32, first: FirstBlock) -> Message
-    ensures value { said result ≡ head settings.now number index first }
-    ensures len { result.len ≡ 27 }
+    ensures value { result.items ≡ head settings.now number index first }
+    ensures len { array_vec_len result ≡ 27 }
 {
     let mut message = Message::new();
-    message.push(&settings.supplier.to_be_bytes());
-    message.push(&settings.meter.to_be_bytes());
-    message.push(&[ORIGIN]);
-    message.push(&number.to_be_bytes());
+    append(&mut message, &settings.supplier.to_be_bytes());
+    append(&mut message, &settings.meter.to_be_bytes());
+    append(&mut message, &[ORIGIN]);
+    append(&mut message, &number.to_be_bytes());
     let [_, _, high, low] = index.to_be_bytes();
-    message.push(&[high, low]);
-    message.push(&[first.subclass, first.config]);
-    message.push(&first.amt.to_be_bytes());
+    append(&mut message, &[high, low]);
+    append(&mut message, &[first.subclass, first.config]);
+    append(&mut message, &first.amt.to_be_bytes());
     message
 }
 
@@ -73,11 +56,11 @@ pub(crate) fn message_of(
     further: &[u64],
 ) -> Message
     requires { length further.now ≤ 3 }
-    ensures { said result ≡ message settings.now number index first.now further.now }
+    ensures { result.items ≡ message settings.now number index first.now further.now }
 {
     let mut message = head_of(settings, number, index, *first);
     for block in further {
-        message.push(&block.to_be_bytes());
+        append(&mut message, &block.to_be_bytes());
     }
     message
 }

@@ -5,7 +5,7 @@ ghost use Rattle.sealing.specs.Opening.{further_of};
 
 use crate::message::{message_of, nonce_for};
 use crate::opening::Opened;
-use crate::settings::Settings;
+use crate::sealer::Sealer;
 use authenticator::Authenticator;
 use token::subclass::SubClass;
 
@@ -20,18 +20,15 @@ fn index_for(subclass: SubClass, index: u16) -> u32
     }
 }
 
-// The tag field that a slip in clear should have, for a number and the index that the till or the meter keeps.
-pub fn tag_field<A: Authenticator>(
-    authenticator: &A,
-    settings: &Settings,
-    number: u32,
-    index: u16,
-    slip: &Opened,
-) -> u32
-    ensures { result ≡ tag_field settings.now (A.tagged authenticator.now) number (index_for slip.now.subclass index) slip.now.first (further_of slip.now) }
-{
-    let index = index_for(slip.subclass, index);
-    let message = message_of(settings, number, index, &slip.first, slip.further());
-    let tag = authenticator.tag(&nonce_for(settings, number), message.as_slice());
-    u32::from_be_bytes([tag[0], tag[1], tag[2], tag[3]])
+impl<C, A: Authenticator> Sealer<C, A> {
+    // The tag field that a slip in clear should have, for a number and the index that the till or the meter keeps.
+    pub fn tag_field(&self, number: u32, index: u16, slip: &Opened) -> u32
+        ensures { result ≡ tag_field self.now.settings (A.tagged self.now.authenticator) number (index_for slip.now.subclass index) slip.now.first (further_of slip.now) }
+    {
+        let index = index_for(slip.subclass, index);
+        let nonce = nonce_for(&self.settings, number);
+        let message = message_of(&self.settings, number, index, &slip.first, slip.further());
+        let [a, b, c, d, ..] = self.authenticator.tag(&nonce, message.as_slice());
+        u32::from_be_bytes([a, b, c, d])
+    }
 }

@@ -1,5 +1,4 @@
 use Rattle.std.proofs.Common.{ℕ, ◌<◌, List, [], ◌∷◌, get_or, ap, rules}
-use Rattle.sealing.specs.Messages.{said}
 use Rattle.sealing.proofs.Spelled.{seven}
 use Rattle.sealing.proofs.message.head_of.Goals as goal
 
@@ -11,9 +10,9 @@ returns c =
     let j : first.config < 256 = search rules in
     record {
       value = seven c.args.settings.now c.args.number c.args.index first
-          (said c.new-message.result) (said c.push.new.self) (said c.push-2.new.self) (said c.push-3.new.self) (said c.push-4.new.self) (said c.push-5.new.self) (said c.push-6.new.self) (said c.push-7.new.self)
+          c.new-message.result.items c.append.new.message.items c.append-2.new.message.items c.append-3.new.message.items c.append-4.new.message.items c.append-5.new.message.items c.append-6.new.message.items c.append-7.new.message.items
           c.to_be_bytes.result c.to_be_bytes-2.result c.to_be_bytes-3.result (low c.to_be_bytes-4.result) c.to_be_bytes-5.result k j
           c.to_be_bytes.ensures c.to_be_bytes-2.ensures c.to_be_bytes-3.ensures (ap low c.to_be_bytes-4.ensures) c.to_be_bytes-5.ensures
-          c.new-message.ensures.value c.push.ensures.value c.push-2.ensures.value c.push-3.ensures.value c.push-4.ensures.value c.push-5.ensures.value c.push-6.ensures.value c.push-7.ensures.value;
+          c.new-message.ensures c.append.ensures.value c.append-2.ensures.value c.append-3.ensures.value c.append-4.ensures.value c.append-5.ensures.value c.append-6.ensures.value c.append-7.ensures.value;
       len = search rules;
     }

@@ -1,5 +1,5 @@
 use Rattle.std.proofs.Common.{◌≡◌, length, ap, arith}
-use Rattle.sealing.specs.Messages.{said, head}
+use Rattle.sealing.specs.Messages.{head}
 use Rattle.sealing.proofs.Spelled.{block_more, blocks_all}
 use Rattle.sealing.proofs.message.message_of.Goals as goal
 
@@ -9,10 +9,10 @@ loop-block-preserved c =
     let i = c.loop-block.block-index in
     let x = c.to_be_bytes.result in
     let n : length x ≡ 8 = ap length c.to_be_bytes.ensures in (
-      block_more (head c.args.settings.now c.args.number c.args.index c.args.first.now) (said c.loop-block.message) (said c.push.new.self) x bs i c.loop-block-test.true c.loop-block.invariant.0 c.to_be_bytes.ensures c.push.ensures.value,
-      omega (arith, c.push.ensures.len, n, c.loop-block.invariant.1),
+      block_more (head c.args.settings.now c.args.number c.args.index c.args.first.now) c.loop-block.message.items c.append.new.message.items x bs i c.loop-block-test.true c.loop-block.invariant.0 c.to_be_bytes.ensures c.append.ensures.value,
+      omega (arith, c.append.ensures.len, n, c.loop-block.invariant.1),
     )
 
 pub returns : goal.returns
 returns c =
-    blocks_all c.args.settings.now c.args.number c.args.index c.args.first.now (said c.loop-block.message) c.args.further.now c.loop-block.block-index c.loop-block-test.false c.loop-block.invariant.0
+    blocks_all c.args.settings.now c.args.number c.args.index c.args.first.now c.loop-block.message.items c.args.further.now c.loop-block.block-index c.loop-block-test.false c.loop-block.invariant.0

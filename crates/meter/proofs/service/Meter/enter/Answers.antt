@@ -1,9 +1,9 @@
 use Rattle.std.proofs.Common.{◌≡◌, true, false, ltb, Ok, Err, sym, ap, ◌∙◌}
 use Rattle.std.proofs.lemmas.Result.{err_from_is_err_and}
 use Rattle.refusal.specs.declared.Refusal.TheVariants.{NoWrites}
-use Rattle.sealing.specs.Suites.{Suite, suite}
+use Rattle.sealing.specs.Suites.{Suite}
 use Rattle.entry.specs.Stages.{judged_by}
-use Rattle.meter.specs.Meters.{with_store}
+use Rattle.meter.specs.Meters.{with_store, suite_at}
 use Rattle.meter.specs.Answering.{taking, entry_obeyed}
 use Rattle.meter.proofs.Ways.{refused_at, unwritable, taken_at, done, undone}
 use Rattle.refusal.proofs.Passing.{was_ok, was_err}
@@ -13,7 +13,7 @@ use Rattle.meter.proofs.service.Meter.enter.Goals as goal
 
 -- what till and meter agree on, at a meter
 abbrev agreed : (g : given.Over) → Meter g.row.S.Denot g.row.C.Denot g.row.A.Denot → Suite
-agreed g m = suite m.parts.settings (g.C.Cipher.enciphered m.parts.cipher) (g.C.Cipher.deciphered m.parts.cipher) (g.A.Authenticator.tagged m.parts.authenticator)
+agreed g m = suite_at g.C.Cipher.enciphered g.C.Cipher.deciphered g.A.Authenticator.tagged m
 
 pub returns-in_err-worth : goal.returns-in_err-worth
 returns-in_err-worth g c =

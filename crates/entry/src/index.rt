@@ -1,4 +1,4 @@
-// The function index of a till: how many tariffs it has sold.
+// The function index, which till and meter each keep: how many tariffs were set, as far as the count goes.
 ghost use Rattle.std.specs.Prelude.{◌≡◌};
 ghost use Rattle.entry.specs.Rules.{raisable};
 
