@@ -3,7 +3,7 @@ use Rattle.std.proofs.Common.{◌≡◌, ℕ, ◌+◌, ◌*◌, ◌^◌, ◌<◌
 use Rattle.std.proofs.lemmas.List.{take_all}
 use Rattle.std.proofs.lemmas.List.Sums.{sum_by_more}
 use Rattle.journal.specs.Lines.{total}
-use Rattle.journal.specs.declared.calls.Line.{Line}
+use Rattle.journal.specs.Noted.{Line}
 
 -- x is the sum over the first i lines, and each of them added at most 32 bits
 pub record SoFar (f : Line → ℕ) (lines : List Line) (i x : ℕ) : Type 0 where

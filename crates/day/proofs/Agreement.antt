@@ -17,7 +17,7 @@ use Rattle.journal.specs.Law.{RightBy, Law}
 use Rattle.journal.specs.declared.answers.Answer.{Answer}
 use Rattle.journal.specs.declared.answers.Answer.TheVariants.{Drawn, Issued, Voided, Taken, Spent, NotInHand, Refused}
 use Rattle.journal.specs.declared.calls.Call.{Call}
-use Rattle.journal.specs.declared.calls.Line.{Line}
+use Rattle.journal.specs.Noted.{Line}
 use Rattle.till_ledger.specs.Ledgers.{journal_of, start_of, world_at}
 use Rattle.day.specs.Balances.{amount_taken, amount_spent, balance_of, agreeing}
 use Rattle.day.specs.Days.{DayLedger, Kept}
@@ -70,4 +70,4 @@ lawful_agrees l opened e law =
 pub kept_agrees : (l : DayLedger) (opened : ℕ) → Kept l → opened ≡ 0 →
     agreeing opened (plain_kept l.meter.parts.store).credit l.till.counts (length (vec_items l.hand)) (balance_of (journal_of l)) ≡ true
 kept_agrees l opened k e =
-    lawful_agrees l opened (e ∙ sym k.opening) (k.lawful k.fresh (ap (λ (x : Settings). suite x (as_is l.till.cipher) (as_is l.till.cipher) (byte_sum l.till.authenticator)) (k.till ∙ sym k.meter)))
+    lawful_agrees l opened (e ∙ sym k.opening) (k.lawful k.fresh (ap (λ (x : Settings). suite x (as_is l.till.sealer.cipher) (as_is l.till.sealer.cipher) (byte_sum l.till.sealer.authenticator)) (k.till ∙ sym k.meter)))

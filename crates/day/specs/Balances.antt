@@ -5,7 +5,7 @@ use Rattle.till.specs.declared.counts.Counts.{Counts}
 use Rattle.journal.specs.Lines.{deal, total, how_many, draws, issues, voids}
 use Rattle.journal.specs.declared.answers.Answer.{Answer}
 use Rattle.journal.specs.declared.answers.Answer.TheVariants.{Drawn, Issued, Voided, Taken, Spent, NotInHand, Refused}
-use Rattle.journal.specs.declared.calls.Line.{Line}
+use Rattle.journal.specs.Noted.{Line}
 use Rattle.day.specs.declared.sums.Balance.{Balance}
 use Rattle.day.specs.declared.sums.Share.{Share}
 

@@ -7,7 +7,7 @@ use Rattle.authenticator.specs.declared.byte_sum.ByteSum.{ByteSum}
 use Rattle.store.specs.Plain.{plain_kept, plain_writes}
 use Rattle.store.specs.declared.plain.PlainStore.{PlainStore}
 use Rattle.journal.specs.Standings.{NewWorld}
-use Rattle.journal.specs.declared.calls.Line.{Line}
+use Rattle.journal.specs.Noted.{Line}
 use Rattle.till_ledger.specs.Ledgers.{journal_of, start_of, Lawful}
 use Rattle.till_ledger.specs.declared.ledger.Ledger.{Ledger}
 use Rattle.worked.specs.Bench.{bench_settings}
@@ -22,8 +22,8 @@ DayLedger = Ledger PlainStore Clear ByteSum
 -- the day's ledger: till and meter have the bench's settings and were new when it was opened, with no credit; it
 -- keeps the law
 pub record Kept (l : DayLedger) : Type 0 where
-  pub till : l.till.settings ≡ bench_settings
-  pub meter : l.meter.parts.settings ≡ bench_settings
+  pub till : l.till.sealer.settings ≡ bench_settings
+  pub meter : l.meter.parts.sealer.settings ≡ bench_settings
   pub fresh : NewWorld (start_of l)
   pub opening : (start_of l).kept.credit ≡ 0
   pub lawful : Lawful plain_kept plain_writes as_is as_is byte_sum l

@@ -7,7 +7,7 @@ use Rattle.journal.specs.declared.answers.Answer.TheVariants as answer
 use Rattle.journal.specs.declared.answers.Issued.{Issued}
 use Rattle.journal.specs.declared.calls.Call.{Call}
 use Rattle.journal.specs.declared.calls.Call.TheVariants as call
-use Rattle.journal.specs.declared.calls.Line.{Line}
+use Rattle.journal.specs.Noted.{Line}
 use Rattle.journal.specs.declared.calls.Order.{Order}
 use Rattle.sale.specs.declared.orders.PriceList.{PriceList}
 use Rattle.day.specs.declared.plan.Deed.{Deed}

@@ -1,10 +1,9 @@
 // A day at one till and one meter: what is asked of them, call by call, and the balance at its end.
 #![tactic(auto)]
 
-ghost use Rattle.std.specs.Prelude.{◌≡◌, true, [], IfOk, MatchResult, OnOk};
+ghost use Rattle.std.specs.Prelude.{◌≡◌, true, [], IfOk, OnOk};
 ghost use Rattle.store.specs.Plain.{plain_kept};
 ghost use Rattle.till_ledger.specs.Ledgers.{journal_of};
-ghost use Rattle.worked.specs.Bench.{bench_settings};
 ghost use Rattle.day.specs.Days.{Kept, Noted, AllNoted, closing_of};
 ghost use Rattle.day.specs.Deeds.{wanted};
 
@@ -19,39 +18,26 @@ use crate::keying::call_of;
 use crate::plan::{AFTERNOON, Deed, EVENING, MORNING, NOON};
 use crate::sums::Closing;
 use crate::telling::{closing_text, line_text};
-use anyhow::anyhow;
 use authenticator::byte_sum::ByteSum;
 use cipher::clear::Clear;
 use journal::calls::Line;
 use meter::fitted::FittedMeter;
-use refusal::Refusal;
-use sealing::settings::{SettingValues, Settings};
 use std::alloc::{AllocError, Global};
 use store::PlainStore;
 use till::selling::Till;
 use till_ledger::closing::{Closed, void_all};
 use till_ledger::ledger::Ledger;
-
-fn bench_settings() -> Result<Settings, Refusal>
-    ensures { MatchResult result (λ s. s ≡ bench_settings) (λ _. ⊥) }
-{
-    Settings::new(SettingValues {
-        supplier: 1,
-        meter: 2,
-        multipliers: [1, 10, 100, 1000],
-        ceiling: 3400,
-    })
-}
+use worked::bench::bench_settings;
 
 // A ledger over a new till and a new meter of the bench, with a blank store.
-fn open_day(heap: Global) -> Result<Ledger<PlainStore, Clear, ByteSum>, Refusal>
-    ensures journal { MatchResult result (λ l. journal_of l ≡ []) (λ _. ⊥) }
-    ensures credit { MatchResult result (λ l. (plain_kept l.meter.parts.store).credit ≡ 0) (λ _. ⊥) }
-    ensures kept { MatchResult result Kept (λ _. ⊥) }
+fn open_day(heap: Global) -> Ledger<PlainStore, Clear, ByteSum>
+    ensures journal { journal_of result ≡ [] }
+    ensures credit { (plain_kept result.meter.parts.store).credit ≡ 0 }
+    ensures kept { Kept result }
 {
-    let till = Till::new(bench_settings()?, Clear, ByteSum);
-    let fitted = FittedMeter::fit(bench_settings()?, PlainStore::blank(), Clear, ByteSum);
-    Ok(Ledger::open(till, fitted.into_service(), heap))
+    let till = Till::new(bench_settings(), Clear, ByteSum);
+    let fitted = FittedMeter::fit(bench_settings(), PlainStore::blank(), Clear, ByteSum);
+    Ledger::open(till, fitted.into_service(), heap)
 }
 
 // Does one deed: the call that it wants is performed and noted. The ledger goes on keeping the law.
@@ -151,9 +137,7 @@ fn work(rt: &HostRuntime, ledger: &mut Ledger<PlainStore, Clear, ByteSum>) -> an
 
 fn day(rt: &HostRuntime) -> anyhow::Result<()> {
     rt.println("a day at the till")?;
-    let Ok(mut ledger) = open_day(rt.alloc()) else {
-        return Err(anyhow!("the settings of the bench are outside their limits"));
-    };
+    let mut ledger = open_day(rt.alloc());
     let worked = work(rt, &mut ledger);
     let Closed {
         mut till,

@@ -6,7 +6,7 @@ use Rattle.record.specs.declared.Record.{Record}
 use Rattle.sealing.specs.Suites.{Suite}
 use Rattle.till.specs.declared.counts.Counts.{Counts}
 use Rattle.till.specs.declared.drawn.DrawnNumber.{DrawnNumber}
-use Rattle.journal.specs.declared.calls.Line.{Line}
+use Rattle.journal.specs.Noted.{Line}
 use Rattle.journal.specs.Hands.{held}
 use Rattle.journal.specs.Lines.{effect, total, times, drawn_times, issued_times, voided_times, draws, issues, voids, rates_issued, highest_in, index_in, tariff_after, writes_after, AtEach}
 use Rattle.journal.specs.Standings.{World}

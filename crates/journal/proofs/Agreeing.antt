@@ -11,7 +11,7 @@ use Rattle.entry.specs.Reading.{slip_read}
 use Rattle.entry.specs.Rules.{Standing, standing, number_in, entry_rules}
 use Rattle.meter.specs.Answering.{spend_rules}
 use Rattle.journal.specs.Standings.{standing_after, desk_after}
-use Rattle.journal.specs.declared.calls.Line.{Line}
+use Rattle.journal.specs.Noted.{Line}
 use Rattle.journal.specs.Hands.{is_in_hand}
 use Rattle.journal.proofs.Accounts.{Account, TillAccount}
 

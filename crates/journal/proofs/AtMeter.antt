@@ -29,13 +29,14 @@ use Rattle.journal.specs.declared.answers.Answer.{Answer}
 use Rattle.journal.specs.declared.answers.Answer.TheVariants as answer
 use Rattle.journal.specs.declared.calls.Call.{Call}
 use Rattle.journal.specs.declared.calls.Call.TheVariants.{Enter, Spend}
-use Rattle.journal.specs.declared.calls.Entry.{Entry}
-use Rattle.journal.specs.declared.calls.Usage.{Usage}
-use Rattle.journal.specs.declared.calls.Line.{Line}
+use Rattle.meter.specs.declared.calls.Entry.{Entry}
+use Rattle.meter.specs.declared.calls.Usage.{Usage}
+use Rattle.journal.specs.Noted.{Line}
 use Rattle.journal.specs.Lines.{times}
 use Rattle.journal.specs.Standings.{standing_after}
-use Rattle.journal.specs.Law.{OneWrite, Right}
-use Rattle.journal.specs.Steps.{next_of, entry_answer, spend_answer, Moved}
+use Rattle.meter.specs.Writing.{OneWrite, next_of, Moved}
+use Rattle.journal.specs.Law.{Right}
+use Rattle.journal.specs.Steps.{entry_answer, spend_answer}
 use Rattle.journal.proofs.Accounts.{Account}
 use Rattle.journal.proofs.Agreeing.{number_from, Agree, agree, entry_same, spend_same}
 use Rattle.journal.proofs.Growing.{Step, rests}

@@ -22,7 +22,7 @@ use Rattle.journal.specs.declared.answers.Issued.{Issued}
 use Rattle.journal.specs.declared.calls.Call.{Call}
 use Rattle.journal.specs.declared.calls.Call.TheVariants.{Draw, Issue, Void}
 use Rattle.journal.specs.declared.calls.Cancellation.{Cancellation}
-use Rattle.journal.specs.declared.calls.Line.{Line}
+use Rattle.journal.specs.Noted.{Line}
 use Rattle.journal.specs.declared.calls.Order.{Order}
 use Rattle.journal.specs.Hands.{held, one, is_in_hand, Gains, SameHand}
 use Rattle.journal.specs.Lines.{drawn_times, draws, writes_after}

@@ -11,7 +11,7 @@ use Rattle.sealing.specs.Suites.{Suite}
 use Rattle.till.specs.declared.counts.Counts.{Counts}
 use Rattle.till.specs.declared.drawn.DrawnNumber.{DrawnNumber}
 use Rattle.till.specs.Counting.{no_counts}
-use Rattle.journal.specs.declared.calls.Line.{Line}
+use Rattle.journal.specs.Noted.{Line}
 use Rattle.journal.specs.Hands.{held, SameHand}
 use Rattle.journal.specs.Lines.{Effect, nothing, effect, Deal, idle, deal, times, drawn_times, draws, one_if, how_many, or_zero, highest_in}
 use Rattle.journal.specs.Law.{one_up_to}

@@ -7,18 +7,18 @@ use Rattle.window.proofs.Recovery.{stands_for}
 use Rattle.sealing.specs.Suites.{Suite, Sound}
 use Rattle.entry.specs.Reading.{slip_read}
 use Rattle.entry.specs.Rules.{Standing, entry_rules}
-use Rattle.meter.specs.declared.answers.Taken as answers-taken
+use Rattle.meter.specs.declared.answers.Taken as taken
 use Rattle.sale.specs.Slips.{slip_text}
 use Rattle.sale.specs.declared.orders.Sale.{Sale}
 use Rattle.readback.specs.Back.{amount_sold, open_rules, Reads}
 use Rattle.readback.proofs.Ruling.{reads_anywhere, slip_digits}
 use Rattle.journal.specs.declared.answers.Answer.{Answer}
 use Rattle.journal.specs.declared.answers.Answer.TheVariants.{Drawn, Issued, Voided, Taken, Spent, NotInHand, Refused}
-use Rattle.journal.specs.declared.answers.Issued as answers-issued
+use Rattle.journal.specs.declared.answers.Issued as issued
 use Rattle.journal.specs.declared.calls.Call.{Call}
 use Rattle.journal.specs.declared.calls.Call.TheVariants.{Issue, Enter}
-use Rattle.journal.specs.declared.calls.Entry.{Entry}
-use Rattle.journal.specs.declared.calls.Line.{Line}
+use Rattle.meter.specs.declared.calls.Entry.{Entry}
+use Rattle.journal.specs.Noted.{Line}
 use Rattle.journal.specs.declared.calls.Order.{Order}
 use Rattle.journal.specs.Telling.{Told}
 use Rattle.journal.specs.Lines.{rates_issued, AtEach}
@@ -35,11 +35,11 @@ not_both rules e kept broken = broken_among broken.before broken.after e (subst 
 
 module _ (s : Suite) (m : Standing) (d : Desk) (e : Entry) (number : ℕ) (sale : Sale) (reads : Reads s m (vec_items e.text) number sale)
     (kept : AllKept (entry_rules s m (vec_items e.text))) where
-  abbrev own : answers-taken.Taken
+  abbrev own : taken.Taken
   own = record { number = number; amount = amount_sold s.settings sale; credit = m.credit + amount_sold s.settings sale }
 
   -- an entry taken rightly, of a slip that reads so
-  taken_own : (t : answers-taken.Taken) (writes : ℕ) → EntryTaken s m (vec_items e.text) t writes → Taken t ≡ Taken own
+  taken_own : (t : taken.Taken) (writes : ℕ) → EntryTaken s m (vec_items e.text) t writes → Taken t ≡ Taken own
   taken_own t writes right =
       let text = vec_items e.text in
       let for_it : t.number ≡ number =
@@ -65,7 +65,7 @@ module _ (s : Suite) (m : Standing) (d : Desk) (e : Entry) (number : ℕ) (sale 
       absurd (not_both (entry_rules s m (vec_items e.text)) r kept (subst (λ k. FirstBroken (call_rules s m d k) r) is broken))
 
 -- an issue that was answered with a slip was answered rightly
-issued_right : (s : Suite) (m : Standing) (d : Desk) (c : Call) (x : Answer) (writes : ℕ) (o : Order) (i : answers-issued.Issued) → c ≡ Issue o → x ≡ Issued i →
+issued_right : (s : Suite) (m : Standing) (d : Desk) (c : Call) (x : Answer) (writes : ℕ) (o : Order) (i : issued.Issued) → c ≡ Issue o → x ≡ Issued i →
     RightBy s m d c x writes → SlipIssued s d o i
 issued_right s m d c x writes o i is answered right =
     from (subst (λ y. RightBy s m d c y writes) answered right)

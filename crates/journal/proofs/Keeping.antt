@@ -3,7 +3,7 @@ use Rattle.std.proofs.Common.{◌≡◌, ℕ, List, [], ◌∷◌, ◌++◌, sym
 use Rattle.sealing.specs.Suites.{Suite, Sound}
 use Rattle.journal.specs.declared.answers.Answer.{Answer}
 use Rattle.journal.specs.declared.calls.Call.{Call}
-use Rattle.journal.specs.declared.calls.Line.{Line}
+use Rattle.journal.specs.Noted.{Line}
 use Rattle.journal.specs.Standings.{World}
 use Rattle.journal.specs.Law.{Law, NewRunKeeps}
 use Rattle.journal.specs.Steps.{Performed, AllPerformed}

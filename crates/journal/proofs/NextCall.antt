@@ -12,7 +12,7 @@ use Rattle.journal.specs.declared.answers.Answer.TheVariants as answer
 use Rattle.journal.specs.declared.answers.Issued.{Issued}
 use Rattle.journal.specs.declared.calls.Call.{Call}
 use Rattle.journal.specs.declared.calls.Call.TheVariants.{Draw, Issue, Void, Enter, Spend}
-use Rattle.journal.specs.declared.calls.Line.{Line}
+use Rattle.journal.specs.Noted.{Line}
 use Rattle.journal.specs.Hands.{held, is_in_hand}
 use Rattle.journal.specs.Lines.{effect_of, effect, nothing, deal_of, deal, idle, writes_after}
 use Rattle.journal.specs.Standings.{World, NewWorld}

@@ -1,4 +1,4 @@
--- The law of a journal. What makes an answer the right one: call_rules, held_for; OneWrite, EntryTaken, SpendPerformed, SlipIssued;
+-- The law of a journal. What makes an answer the right one: call_rules, held_for; EntryTaken, SpendPerformed, SlipIssued;
 -- RightBy, Right. What an issued slip is owed: Due, Honoured. Numbers, what becomes of them; Law; NewRunKeeps.
 use Rattle.std.specs.Prelude.{◌≡◌, ℕ, ◌+◌, ◌-◌, ◌<◌, ◌≤◌, Bool, true, false, cond, ◌&&◌, ◌⊎◌, List, [], ◌∷◌, ◌++◌, length, take, Some, None, vec_items, nat_le, nat_lt}
 use Rattle.refusal.specs.Checks.{Rule, AllKept, FirstBroken}
@@ -10,9 +10,10 @@ use Rattle.record.specs.declared.Record.{Record}
 use Rattle.sealing.specs.Suites.{Suite}
 use Rattle.entry.specs.Reading.{slip_read, amount_read}
 use Rattle.entry.specs.Rules.{Standing, entry_rules}
+use Rattle.meter.specs.Writing.{OneWrite}
 use Rattle.meter.specs.Answering.{spend_rules}
-use Rattle.meter.specs.declared.answers.Taken as answers-taken
-use Rattle.meter.specs.declared.answers.Spent as answers-spent
+use Rattle.meter.specs.declared.answers.Taken as taken
+use Rattle.meter.specs.declared.answers.Spent as spent
 use Rattle.sale.specs.Sales.{sale_rules}
 use Rattle.sale.specs.Slips.{slip_length, slip_for}
 use Rattle.till.specs.Counting.{draw_rules}
@@ -21,14 +22,14 @@ use Rattle.till.specs.declared.drawn.DrawnNumber.{DrawnNumber}
 use Rattle.readback.specs.Back.{amount_sold}
 use Rattle.journal.specs.declared.answers.Answer.{Answer}
 use Rattle.journal.specs.declared.answers.Answer.TheVariants.{Drawn, Issued, Voided, Taken, Spent, NotInHand, Refused}
-use Rattle.journal.specs.declared.answers.Issued as answers-issued
+use Rattle.journal.specs.declared.answers.Issued as issued
 use Rattle.journal.specs.declared.calls.Call.{Call}
 use Rattle.journal.specs.declared.calls.Call.TheVariants.{Draw, Issue, Void, Enter, Spend}
 use Rattle.journal.specs.declared.calls.Cancellation.{Cancellation}
-use Rattle.journal.specs.declared.calls.Entry.{Entry}
-use Rattle.journal.specs.declared.calls.Line.{Line}
+use Rattle.meter.specs.declared.calls.Entry.{Entry}
+use Rattle.journal.specs.Noted.{Line}
 use Rattle.journal.specs.declared.calls.Order.{Order}
-use Rattle.journal.specs.declared.calls.Usage.{Usage}
+use Rattle.meter.specs.declared.calls.Usage.{Usage}
 use Rattle.journal.specs.Telling.{told}
 use Rattle.journal.specs.Hands.{held}
 use Rattle.journal.specs.Lines.{effect, total, times, drawn_times, issued_times, voided_times, draws, issues, voids, rates_issued, highest_in, index_in, tariff_after, writes_after, credit_after, AtEach}
@@ -50,29 +51,23 @@ held_for d (Void v) = d.holds v.number
 held_for d (Enter e) = true
 held_for d (Spend u) = true
 
--- one write was made: there was one, and the count fell by one or none
-pub record OneWrite (before after : ℕ) : Type 0 where
-  pub left : 1 ≤ before
-  pub most : after ≤ before
-  pub least : before ≤ after + 1
-
 -- an entry was taken rightly, where the meter stood so: every rule was kept; the number is the one of the window that its ten bits
 -- stand for; the answer tells it, the amount that the digits say, and the credit higher by that
-pub record EntryTaken (s : Suite) (m : Standing) (text : List ℕ) (t : answers-taken.Taken) (writes : ℕ) : Type 0 where
+pub record EntryTaken (s : Suite) (m : Standing) (text : List ℕ) (t : taken.Taken) (writes : ℕ) : Type 0 where
   pub rules : AllKept (entry_rules s m text)
   pub number : Stands m.highest (slip_read s text).first.tstn t.number
   pub tells : told (Taken t) ≡ record { number = Some 0; values = t.number ∷ amount_read s text ∷ (m.credit + amount_read s text) ∷ [] }
   pub write : OneWrite m.writes writes
 
 -- a spend was performed rightly: every rule was kept, and the answer tells the amount named and the credit lower by it
-pub record SpendPerformed (m : Standing) (amount : ℕ) (p : answers-spent.Spent) (writes : ℕ) : Type 0 where
+pub record SpendPerformed (m : Standing) (amount : ℕ) (p : spent.Spent) (writes : ℕ) : Type 0 where
   pub rules : AllKept (spend_rules m amount)
   pub tells : told (Spent p) ≡ record { number = Some 0; values = amount ∷ (m.credit - amount) ∷ [] }
   pub write : OneWrite m.writes writes
 
 -- a slip was issued rightly, where the till stood so: its number was in hand, every rule was kept, and the bytes are those of the
 -- slip for that number and sale at the till's index
-pub record SlipIssued (s : Suite) (d : Desk) (o : Order) (i : answers-issued.Issued) : Type 0 where
+pub record SlipIssued (s : Suite) (d : Desk) (o : Order) (i : issued.Issued) : Type 0 where
   pub in_hand : d.holds o.number ≡ true
   pub rules : AllKept (sale_rules s.settings d.index o.sale)
   pub bytes : i.slip ≡ slip_for s o.number d.index o.sale
@@ -101,7 +96,7 @@ pub record Due (s : Suite) (opening writes : ℕ) (before : List Line) (text : L
   pub earlier : List Line
   pub issue : Line
   pub later : List Line
-  pub slip : answers-issued.Issued
+  pub slip : issued.Issued
   pub stands : before ≡ earlier ++ issue ∷ later
   pub asked : issue.call ≡ Issue o
   pub answered : issue.answer ≡ Issued slip

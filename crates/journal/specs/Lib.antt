@@ -1,3 +1,4 @@
+pub mod Noted
 pub mod Telling
 pub mod Hands
 pub mod Lines

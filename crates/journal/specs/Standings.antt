@@ -8,7 +8,7 @@ use Rattle.entry.specs.Rules.{Standing}
 use Rattle.till.specs.Counting.{no_counts}
 use Rattle.till.specs.declared.counts.Counts.{Counts}
 use Rattle.till.specs.declared.drawn.DrawnNumber.{DrawnNumber}
-use Rattle.journal.specs.declared.calls.Line.{Line}
+use Rattle.journal.specs.Noted.{Line}
 use Rattle.journal.specs.Hands.{is_in_hand}
 use Rattle.journal.specs.Lines.{times, drawn_times, issued_times, voided_times, draws, rates_issued, highest_in, index_in, writes_after, credit_after}
 

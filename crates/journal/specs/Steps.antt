@@ -1,11 +1,10 @@
--- What one call does to till and meter, wherever they stand: next_of, entry_answer, spend_answer, draw_answer, sold, issue_answer, what is
--- answered; Moved, SameMeter, SameDesk, Drew, Sold, Cancelled, what changes; Performed; AllPerformed, the same of a journal.
+-- What one call does to till and meter, wherever they stand: entry_answer, spend_answer, draw_answer, sold, issue_answer, what is
+-- answered; SameMeter, SameDesk, Drew, Sold, Cancelled, what changes; Performed; AllPerformed, the same of a journal.
 use Rattle.std.specs.Prelude.{◌≡◌, ℕ, ◌+◌, min, Bool, true, false, cond, List, [], ◌∷◌, Ok, Err, vec_items, Result}
 use Rattle.refusal.specs.Checks.{checked}
 use Rattle.refusal.specs.declared.Refusal.{Refusal}
 use Rattle.record.specs.declared.Record.{Record}
 use Rattle.sealing.specs.Suites.{Suite}
-use Rattle.entry.specs.declared.worth.Worth.{Worth}
 use Rattle.entry.specs.Judging.{judged}
 use Rattle.meter.specs.Answering.{taking, spend_judged, spending}
 use Rattle.meter.specs.declared.answers.Taken.{Taken}
@@ -18,17 +17,12 @@ use Rattle.journal.specs.declared.answers.Answer.TheVariants as answer
 use Rattle.journal.specs.declared.answers.Issued.{Issued}
 use Rattle.journal.specs.declared.calls.Call.{Call}
 use Rattle.journal.specs.declared.calls.Call.TheVariants.{Draw, Issue, Void, Enter, Spend}
-use Rattle.journal.specs.declared.calls.Line.{Line}
+use Rattle.journal.specs.Noted.{Line}
 use Rattle.journal.specs.declared.calls.Order.{Order}
 use Rattle.journal.specs.Hands.{is_in_hand, Gains, SameHand}
-use Rattle.journal.specs.Law.{OneWrite}
+use Rattle.meter.specs.Writing.{next_of, Moved}
 use Rattle.journal.specs.Lines.{rates_in}
 use Rattle.journal.specs.Standings.{World}
-
--- the record of a verdict on an entry
-abbrev pub next_of : Result Worth Refusal → Result Record Refusal
-next_of (Ok w) = Ok w.next
-next_of (Err e) = Err e
 
 -- what a result is answered as
 abbrev pub entry_answer : Result Taken Refusal → Answer
@@ -51,11 +45,6 @@ issue_answer (Err e) = answer.Refused e
 unfoldable pub sold : Suite → ℕ → Order → Result Issued Refusal
 sold t index o =
     checked (sale_rules t.settings index o.sale) (Ok (record { slip = slip_for t o.number index o.sale; length = slip_length o.sale }))
-
--- the meter from one record and writes left to the next: one write of the new record, or nothing
-abbrev pub Moved : Result Record Refusal → Record → ℕ → Record → ℕ → Type 0
-Moved (Ok next) r writes new left = (new ≡ next) × OneWrite writes left
-Moved (Err e) r writes new left = (new ≡ r) × (left ≡ writes)
 
 -- the meter is as it was
 pub record SameMeter (w v : World) : Type 0 where

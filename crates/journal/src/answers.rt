@@ -1,5 +1,6 @@
 // What is answered.
 ghost use Rattle.std.specs.Prelude.{◌≡◌};
+ghost use Rattle.journal.specs.Steps.{entry_answer, spend_answer};
 ghost use Rattle.journal.specs.Telling.{told};
 
 use meter::answers::{Spent, Taken};
@@ -29,6 +30,28 @@ pub enum Answer {
     // The number to be issued or voided is not in hand, so neither till nor meter was asked.
     NotInHand,
     Refused(Refusal),
+}
+
+impl From<Result<Taken, Refusal>> for Answer {
+    ghost from_gives = { λ entered answer. answer ≡ entry_answer entered };
+
+    fn from(entered: Result<Taken, Refusal>) -> Answer {
+        match entered {
+            Ok(taken) => Answer::Taken(taken),
+            Err(refusal) => Answer::Refused(refusal),
+        }
+    }
+}
+
+impl From<Result<Spent, Refusal>> for Answer {
+    ghost from_gives = { λ spent answer. answer ≡ spend_answer spent };
+
+    fn from(spent: Result<Spent, Refusal>) -> Answer {
+        match spent {
+            Ok(spent) => Answer::Spent(spent),
+            Err(refusal) => Answer::Refused(refusal),
+        }
+    }
 }
 
 impl Answer {

@@ -1,5 +1,6 @@
 // What is asked of a till and of a meter in service, and the journal of it.
 use crate::answers::Answer;
+pub use meter::calls::{Entry, Usage};
 use sale::orders::Sale;
 
 // A slip to be issued for a number in hand.
@@ -15,18 +16,6 @@ pub struct Cancellation {
     pub number: u32,
 }
 
-// Digits keyed in, of any bytes.
-#[derive(Drop)]
-pub struct Entry {
-    pub text: Vec<u8>,
-}
-
-// Power used, in minor units.
-#[derive(Clone, Copy)]
-pub struct Usage {
-    pub amount: u32,
-}
-
 #[derive(Drop)]
 pub enum Call {
     Draw,
@@ -36,10 +25,4 @@ pub enum Call {
     Spend(Usage),
 }
 
-// A call, what was answered, and the writes that the meter's store had left afterwards.
-#[derive(Drop)]
-pub struct Line {
-    pub call: Call,
-    pub answer: Answer,
-    pub writes: u32,
-}
+pub type Line = meter::calls::Line<Call, Answer>;

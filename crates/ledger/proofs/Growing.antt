@@ -8,7 +8,7 @@ use Rattle.record.specs.Changes.{NewRecord, tariff_with}
 use Rattle.sealing.specs.Suites.{Suite}
 use Rattle.ledger.specs.Journal.{effect, times, one_if, or_zero, highest_in}
 use Rattle.ledger.specs.Law.{Right, Law}
-use Rattle.ledger.specs.declared.calls.Line.{Line}
+use Rattle.ledger.specs.Noted.{Line}
 use Rattle.ledger.proofs.Splits.{at_each_none, at_each_push}
 use Rattle.ledger.proofs.Pushing.{total_push, highest_push, tariff_push, writes_push}
 

@@ -3,6 +3,5 @@ pub mod Pushing
 pub mod Standings
 pub mod Growing
 pub mod NextCall
-pub mod Obeying
 pub mod Continuing
 pub mod Listing

@@ -26,12 +26,14 @@ use Rattle.meter.specs.declared.answers.Answer.{Answer}
 use Rattle.meter.specs.declared.answers.Answer.TheVariants as answer
 use Rattle.ledger.specs.declared.calls.Call.{Call}
 use Rattle.ledger.specs.declared.calls.Call.TheVariants.{Enter, Spend}
-use Rattle.ledger.specs.declared.calls.Entry.{Entry}
-use Rattle.ledger.specs.declared.calls.Usage.{Usage}
-use Rattle.ledger.specs.declared.calls.Line.{Line}
+use Rattle.meter.specs.declared.calls.Entry.{Entry}
+use Rattle.meter.specs.declared.calls.Usage.{Usage}
+use Rattle.ledger.specs.Noted.{Line}
 use Rattle.ledger.specs.Journal.{times, one_for_rates, standing_after}
-use Rattle.ledger.specs.Law.{OneWrite, Right, Law}
-use Rattle.ledger.specs.Steps.{next_of, entry_answer, spend_answer, Moved, Performed}
+use Rattle.meter.specs.Telling.{entry_answer, spend_answer}
+use Rattle.meter.specs.Writing.{OneWrite, next_of, Moved}
+use Rattle.ledger.specs.Law.{Right, Law}
+use Rattle.ledger.specs.Steps.{Performed}
 use Rattle.ledger.proofs.Standings.{number_from, Agree, agree, entry_same, spend_same}
 use Rattle.ledger.proofs.Growing.{Step, grow}
 

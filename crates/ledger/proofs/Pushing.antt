@@ -5,7 +5,7 @@ use Rattle.token.specs.declared.tariff.Tariff.{Tariff}
 use Rattle.record.specs.Changes.{tariff_with}
 use Rattle.sealing.specs.Suites.{Suite}
 use Rattle.ledger.specs.Journal.{effect, total, or_zero, highest_in, tariff_after, writes_after}
-use Rattle.ledger.specs.declared.calls.Line.{Line}
+use Rattle.ledger.specs.Noted.{Line}
 
 pub total_push : (f : Line → ℕ) (h : List Line) (x : Line) → total f (h ++ x ∷ []) ≡ total f h + f x
 total_push f h x = sum_by_push f h x

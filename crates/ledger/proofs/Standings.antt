@@ -9,7 +9,7 @@ use Rattle.entry.specs.Rules.{Standing, standing, number_in, entry_rules}
 use Rattle.meter.specs.Answering.{spend_rules}
 use Rattle.ledger.specs.Journal.{standing_after}
 use Rattle.ledger.specs.Law.{Law}
-use Rattle.ledger.specs.declared.calls.Line.{Line}
+use Rattle.ledger.specs.Noted.{Line}
 
 -- the number that ten bits stand for never lies below the window
 pub number_from : (highest low : ℕ) → lowest highest ≤ number_for highest low

@@ -13,7 +13,7 @@ use Rattle.meter.specs.declared.answers.Answer.{Answer}
 use Rattle.meter.specs.declared.answers.Answer.TheVariants.{Taken, Spent, Refused}
 use Rattle.ledger.specs.declared.calls.Call.{Call}
 use Rattle.ledger.specs.declared.calls.Call.TheVariants.{Enter, Spend}
-use Rattle.ledger.specs.declared.calls.Line.{Line}
+use Rattle.ledger.specs.Noted.{Line}
 
 -- the bytes that a call enters
 abbrev pub text_of : Call → List ℕ

@@ -1,4 +1,4 @@
--- The law of a journal: OneWrite, EntryTaken, SpendPerformed, RightBy, Right, what makes an answer the right one; Law.
+-- The law of a journal: EntryTaken, SpendPerformed, RightBy, Right, what makes an answer the right one; Law.
 use Rattle.std.specs.Prelude.{◌≡◌, ℕ, ◌+◌, ◌-◌, ◌≤◌, List, [], ◌∷◌, None, vec_items, nat_lt}
 use Rattle.refusal.specs.Checks.{AllKept, FirstBroken}
 use Rattle.window.specs.Recovery.{lowest, Stands}
@@ -7,33 +7,28 @@ use Rattle.record.specs.declared.Record.{Record}
 use Rattle.sealing.specs.Suites.{Suite}
 use Rattle.entry.specs.Reading.{slip_read, amount_read}
 use Rattle.entry.specs.Rules.{Standing, entry_rules}
+use Rattle.meter.specs.Writing.{OneWrite}
 use Rattle.meter.specs.Answering.{spend_rules}
 use Rattle.meter.specs.Telling.{told}
 use Rattle.meter.specs.declared.answers.Answer.{Answer}
 use Rattle.meter.specs.declared.answers.Answer.TheVariants.{Taken, Spent, Refused}
-use Rattle.meter.specs.declared.answers.Taken as answers-taken
-use Rattle.meter.specs.declared.answers.Spent as answers-spent
+use Rattle.meter.specs.declared.answers.Taken as taken
+use Rattle.meter.specs.declared.answers.Spent as spent
 use Rattle.ledger.specs.declared.calls.Call.{Call}
 use Rattle.ledger.specs.declared.calls.Call.TheVariants.{Enter, Spend}
-use Rattle.ledger.specs.declared.calls.Line.{Line}
+use Rattle.ledger.specs.Noted.{Line}
 use Rattle.ledger.specs.Journal.{effect, total, times, highest_in, index_in, tariff_after, writes_after, standing_after, AtEach}
-
--- one write was made: there was one, and the count fell by one or none
-pub record OneWrite (before after : ℕ) : Type 0 where
-  pub left : 1 ≤ before
-  pub most : after ≤ before
-  pub least : before ≤ after + 1
 
 -- an entry was taken rightly, where the meter stood so: every rule was kept; the number is the one of the window that its ten bits
 -- stand for; the answer tells it, the amount that the digits say, and the credit higher by that
-pub record EntryTaken (s : Suite) (m : Standing) (text : List ℕ) (t : answers-taken.Taken) (writes : ℕ) : Type 0 where
+pub record EntryTaken (s : Suite) (m : Standing) (text : List ℕ) (t : taken.Taken) (writes : ℕ) : Type 0 where
   pub rules : AllKept (entry_rules s m text)
   pub number : Stands m.highest (slip_read s text).first.tstn t.number
   pub tells : told (Taken t) ≡ record { number = 0; values = t.number ∷ amount_read s text ∷ (m.credit + amount_read s text) ∷ [] }
   pub write : OneWrite m.writes writes
 
 -- a spend was performed rightly: every rule was kept, and the answer tells the amount named and the credit lower by it
-pub record SpendPerformed (m : Standing) (amount : ℕ) (p : answers-spent.Spent) (writes : ℕ) : Type 0 where
+pub record SpendPerformed (m : Standing) (amount : ℕ) (p : spent.Spent) (writes : ℕ) : Type 0 where
   pub rules : AllKept (spend_rules m amount)
   pub tells : told (Spent p) ≡ record { number = 0; values = amount ∷ (m.credit - amount) ∷ [] }
   pub write : OneWrite m.writes writes

@@ -5,7 +5,7 @@ use Rattle.record.specs.Changes.{NewRecord}
 use Rattle.sealing.specs.Suites.{Suite}
 use Rattle.meter.specs.declared.answers.Answer.{Answer}
 use Rattle.ledger.specs.declared.calls.Call.{Call}
-use Rattle.ledger.specs.declared.calls.Line.{Line}
+use Rattle.ledger.specs.Noted.{Line}
 use Rattle.ledger.specs.declared.ledger.Ledger.{Ledger}
 use Rattle.ledger.specs.Law.{Law}
 

@@ -1,3 +1,4 @@
+pub mod Noted
 pub mod Journal
 pub mod Law
 pub mod Steps

@@ -1,17 +1,6 @@
 // What is asked of a meter in service, and the journal of it.
 use meter::answers::Answer;
-
-// Digits keyed in, of any bytes.
-#[derive(Drop)]
-pub struct Entry {
-    pub text: Vec<u8>,
-}
-
-// Power used, in minor units.
-#[derive(Clone, Copy)]
-pub struct Usage {
-    pub amount: u32,
-}
+pub use meter::calls::{Entry, Usage};
 
 #[derive(Drop)]
 pub enum Call {
@@ -19,10 +8,4 @@ pub enum Call {
     Spend(Usage),
 }
 
-// A call, what was answered, and the writes that the store had left afterwards.
-#[derive(Drop)]
-pub struct Line {
-    pub call: Call,
-    pub answer: Answer,
-    pub writes: u32,
-}
+pub type Line = meter::calls::Line<Call, Answer>;

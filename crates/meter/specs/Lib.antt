@@ -1,3 +1,4 @@
 pub mod Meters
 pub mod Answering
 pub mod Telling
+pub mod Writing

@@ -1,6 +1,6 @@
 // What a meter in service answers.
 ghost use Rattle.std.specs.Prelude.{◌≡◌};
-ghost use Rattle.meter.specs.Telling.{told};
+ghost use Rattle.meter.specs.Telling.{told, entry_answer, spend_answer};
 
 use refusal::Refusal;
 
@@ -25,6 +25,28 @@ pub enum Answer {
     Taken(Taken),
     Spent(Spent),
     Refused(Refusal),
+}
+
+impl From<Result<Taken, Refusal>> for Answer {
+    ghost from_gives = { λ entered answer. answer ≡ entry_answer entered };
+
+    fn from(entered: Result<Taken, Refusal>) -> Answer {
+        match entered {
+            Ok(taken) => Answer::Taken(taken),
+            Err(refusal) => Answer::Refused(refusal),
+        }
+    }
+}
+
+impl From<Result<Spent, Refusal>> for Answer {
+    ghost from_gives = { λ spent answer. answer ≡ spend_answer spent };
+
+    fn from(spent: Result<Spent, Refusal>) -> Answer {
+        match spent {
+            Ok(spent) => Answer::Spent(spent),
+            Err(refusal) => Answer::Refused(refusal),
+        }
+    }
 }
 
 impl Answer {

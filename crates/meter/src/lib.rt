@@ -2,6 +2,7 @@
 #![tactic(auto)]
 
 pub mod answers;
+pub mod calls;
 pub mod fitted;
 pub mod parts;
 pub mod service;

@@ -2,6 +2,5 @@
 #![tactic(auto)]
 
 mod checking;
-pub mod index;
 pub mod orders;
 pub mod printing;

@@ -1,3 +1,4 @@
 pub mod Spelled
 pub mod Few
 pub mod Walk
+pub mod Soundness

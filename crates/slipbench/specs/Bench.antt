@@ -13,7 +13,7 @@ use Rattle.ledger.specs.Ledgers.{Lawful}
 use Rattle.ledger.specs.declared.ledger.Ledger.{Ledger}
 use Rattle.ledger.specs.declared.calls.Call.{Call}
 use Rattle.ledger.specs.declared.calls.Call.TheVariants.{Enter, Spend}
-use Rattle.ledger.specs.declared.calls.Line.{Line}
+use Rattle.ledger.specs.Noted.{Line}
 use Rattle.worked.specs.Bench.{bench_settings}
 use Rattle.lines.specs.Answering.{answer_text}
 use Rattle.lines.specs.Asking.{Asked, entry, spend, unknown}
@@ -30,7 +30,7 @@ BenchLedger = Ledger PlainStore Clear ByteSum
 -- the bench's ledger: a meter with the bench's settings, opened with a blank record, that keeps the law up to the record and the
 -- writes left that its store means now
 pub record Kept (l : BenchLedger) : Type 0 where
-  pub settings : l.meter.parts.settings ≡ bench_settings
+  pub settings : l.meter.parts.sealer.settings ≡ bench_settings
   pub opening : l.opening ≡ blank 0
   pub writes : l.opening_writes ≡ 4294967295
   pub lawful : Lawful (suite_at as_is as_is byte_sum l.meter) l (plain_kept l.meter.parts.store) (plain_writes l.meter.parts.store)

@@ -1,7 +1,7 @@
 // A bench meter at the keyboard: each line of the input is an entry or a spend, and is answered at once.
 #![tactic(auto)]
 
-ghost use Rattle.std.specs.Prelude.{◌≡◌, [], IfOk, string_bytes, MatchResult};
+ghost use Rattle.std.specs.Prelude.{◌≡◌, [], IfOk, string_bytes};
 ghost use Rattle.store.specs.Plain.{plain_opening, plain_kept};
 ghost use Rattle.ledger.specs.Ledgers.{journal_of};
 ghost use Rattle.lines.specs.Asking.{request_of};
@@ -16,25 +16,20 @@ use ledger::ledger::Ledger;
 use lines::answering::answer_line;
 use lines::asking::{Request, read_request};
 use meter::fitted::FittedMeter;
-use refusal::Refusal;
-use sealing::settings::{SettingValues, Settings};
 use std::alloc::{AllocError, Global};
 use std::io::{BufRead, BufReader};
 use store::PlainStore;
+use worked::bench::bench_settings;
 
 // A ledger over the bench's meter, with a blank store.
-fn open_bench(heap: Global) -> Result<Ledger<PlainStore, Clear, ByteSum>, Refusal>
-    ensures meter { MatchResult result (λ l. (l.meter.parts.settings ≡ bench_settings) × (l.meter.parts.store ≡ plain_opening 0) × (journal_of l ≡ [])) (λ _. ⊥) }
-    ensures kept { MatchResult result Kept (λ _. ⊥) }
+fn open_bench(heap: Global) -> Ledger<PlainStore, Clear, ByteSum>
+    ensures settings { result.meter.parts.sealer.settings ≡ bench_settings }
+    ensures store { result.meter.parts.store ≡ plain_opening 0 }
+    ensures journal { journal_of result ≡ [] }
+    ensures kept { Kept result }
 {
-    let settings = Settings::new(SettingValues {
-        supplier: 1,
-        meter: 2,
-        multipliers: [1, 10, 100, 1000],
-        ceiling: 3400,
-    })?;
-    let fitted = FittedMeter::fit(settings, PlainStore::blank(), Clear, ByteSum);
-    Ok(Ledger::open(fitted.into_service(), heap))
+    let fitted = FittedMeter::fit(bench_settings(), PlainStore::blank(), Clear, ByteSum);
+    Ledger::open(fitted.into_service(), heap)
 }
 
 // The call that a line asks for, if it asks for one.
@@ -68,9 +63,7 @@ fn reply(
 
 fn serve(rt: &HostRuntime) -> anyhow::Result<()> {
     let heap = rt.alloc();
-    let Ok(mut ledger) = open_bench(heap) else {
-        return Err(anyhow!("the settings of the bench are outside their limits"));
-    };
+    let mut ledger = open_bench(heap);
     rt.println("slipbench")?;
     for line in BufReader::new(heap, rt.stdin())?.split(heap, b'\n') {
         let Ok(text) = reply(&mut ledger, &line?, heap) else {

@@ -43,14 +43,12 @@ impl Counts {
     }
 
     // Counts a draw, and answers its number.
+    #[tactic(auto, unfolding(crate::specs::Counting::drawn))]
     pub(crate) fn draw(&mut self) -> Result<u32, Refusal>
         ensures answer { result ≡ drawn self.old.draws }
         ensures after { self.new ≡ after_draw self.old }
     {
-        if self.draws == u32::MAX {
-            return Err(Refusal::NoMoreNumbers);
-        }
-        self.draws += 1;
+        self.draws = self.draws.checked_add(1).ok_or(Refusal::NoMoreNumbers)?;
         Ok(self.draws)
     }
 

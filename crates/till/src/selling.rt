@@ -15,14 +15,13 @@ use cipher::Cipher;
 use refusal::Refusal;
 use sale::orders::Sale;
 use sale::printing::print_slip;
+use sealing::sealer::Sealer;
 use sealing::settings::Settings;
 use token::subclass::SubClass;
 
 #[derive(Drop)]
 pub struct Till<C, A> {
-    settings: Settings,
-    cipher: C,
-    authenticator: A,
+    sealer: Sealer<C, A>,
     // How many slips with rate prices were issued.
     index: u16,
     counts: Counts,
@@ -44,9 +43,11 @@ impl<C, A> Till<C, A> {
         ensures { result ≡ new_till settings cipher authenticator }
     {
         Till {
-            settings,
-            cipher,
-            authenticator,
+            sealer: Sealer {
+                settings,
+                cipher,
+                authenticator,
+            },
             index: 0,
             counts: Counts::none(),
         }
@@ -87,16 +88,16 @@ impl<C, A> Till<C, A> {
 impl<C: Cipher + Drop, A: Authenticator + Drop> Till<C, A> {
     // Replaces the cipher by the one of its kind for the key and this MeterID.
     pub fn take_cipher_key(&mut self, key: &[u8; 16])
-        ensures { self.new ≡ with_cipher self.old (C.keyed key.now self.old.settings.meter) }
+        ensures { self.new ≡ with_cipher self.old (C.keyed key.now self.old.sealer.settings.meter) }
     {
-        self.cipher = C::keyed(key, self.settings.meter);
+        self.sealer.take_cipher_key(key);
     }
 
     // Replaces the authenticator by the one of its kind for the key and this MeterID.
     pub fn take_authenticator_key(&mut self, key: &[u8; 16])
-        ensures { self.new ≡ with_authenticator self.old (A.keyed key.now self.old.settings.meter) }
+        ensures { self.new ≡ with_authenticator self.old (A.keyed key.now self.old.sealer.settings.meter) }
     {
-        self.authenticator = A::keyed(key, self.settings.meter);
+        self.sealer.take_authenticator_key(key);
     }
 }
 
@@ -109,20 +110,11 @@ impl<C: Cipher, A: Authenticator> Till<C, A> {
         sale: &Sale,
         slip: &mut [u8; 80],
     ) -> Result<usize, NotIssued>
-        ensures answer { result ≡ issuing drawn (checked (sale_rules self.old.settings self.old.index sale.now) (Ok (slip_length sale.now))) }
-        ensures after { self.new ≡ (if issuable self.old.settings self.old.index sale.now then after_sale self.old sale.now else self.old) }
-        ensures bytes { slip.new ≡ (if issuable self.old.settings self.old.index sale.now then slip_for (till_suite C.enciphered C.deciphered A.tagged self.old) drawn.number self.old.index sale.now else slip.old) }
+        ensures answer { result ≡ issuing drawn (checked (sale_rules self.old.sealer.settings self.old.index sale.now) (Ok (slip_length sale.now))) }
+        ensures after { self.new ≡ (if issuable self.old.sealer.settings self.old.index sale.now then after_sale self.old sale.now else self.old) }
+        ensures bytes { slip.new ≡ (if issuable self.old.sealer.settings self.old.index sale.now then slip_for (till_suite C.enciphered C.deciphered A.tagged self.old) drawn.number self.old.index sale.now else slip.old) }
     {
-        let printed = print_slip(
-            &self.settings,
-            &self.cipher,
-            &self.authenticator,
-            drawn.number(),
-            self.index,
-            sale,
-            slip,
-        );
-        match printed {
+        match print_slip(&self.sealer, drawn.number(), self.index, sale, slip) {
             Ok(printed) => {
                 drawn.end();
                 self.index = raised(self.index, printed.subclass);

@@ -108,9 +108,9 @@ module _ {C A : Type 0} (t s : Suite) (kept : Record) (writes : ℕ) (till next 
       )
 
   -- an issue of a number that was taken out of the hand
-  module _ (o : Order) (settled : t.settings ≡ till.settings) (d : DrawnNumber) (its_own : d.number ≡ o.number) where
+  module _ (o : Order) (settled : t.settings ≡ till.sealer.settings) (d : DrawnNumber) (its_own : d.number ≡ o.number) where
     abbrev a : Bool
-    a = salable till.settings o.sale
+    a = salable till.sealer.settings o.sale
 
     abbrev b : Bool
     b = raisable (sub_class_named o.sale.subclass) till.index

@@ -12,7 +12,7 @@ use Rattle.journal.specs.declared.calls.Order.{Order}
 use Rattle.journal.specs.Hands.{is_in_hand}
 use Rattle.journal.specs.Standings.{World}
 use Rattle.journal.specs.Steps.{sold, Drew, Sold, Cancelled, Performed}
-use Rattle.journal.specs.declared.calls.Line.{Line}
+use Rattle.journal.specs.Noted.{Line}
 use Rattle.till_ledger.specs.Ledgers.{line_of, calls_of}
 
 -- the calls noted and the calls left are all calls, when one more is noted

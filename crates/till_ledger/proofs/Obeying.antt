@@ -1,83 +1,29 @@
--- A store that obeys a verdict moves as the verdict says: entry_performed, spend_performed; only_store.
-use Rattle.std.proofs.Common.{◌≡◌, ℕ, ◌-◌, ◌<◌, ◌≤◌, List, Ok, Err, vec_items, Result, sym, refl, ap, ◌∙◌, subst, arith}
-use Rattle.std.proofs.lemmas.Bool.{ltb-true}
-use Rattle.refusal.specs.declared.Refusal.{Refusal}
-use Rattle.refusal.proofs.Passing.{checked_ok}
+-- A call at the meter leaves till and hand as they were: still, entered, spent.
+use Rattle.std.proofs.Common.{◌≡◌, ℕ, List, vec_items, refl}
 use Rattle.record.specs.declared.Record.{Record}
-use Rattle.record.specs.Changes.{spent}
 use Rattle.sealing.specs.Suites.{Suite}
-use Rattle.entry.specs.declared.worth.Worth.{Worth}
-use Rattle.entry.specs.Reading.{slip_read}
-use Rattle.entry.specs.Rules.{standing, number_in, entry_rules}
-use Rattle.entry.specs.Judging.{worth_of, judged}
-use Rattle.meter.specs.Meters.{with_store}
-use Rattle.meter.specs.Answering.{taking, entry_obeyed, spend_rules, spend_judged, spending, spend_obeyed}
-use Rattle.meter.specs.declared.service.Meter.{Meter}
+use Rattle.entry.specs.Judging.{judged}
+use Rattle.meter.specs.Answering.{taking, spend_judged, spending}
+use Rattle.meter.specs.Writing.{next_of, Moved}
+use Rattle.meter.specs.declared.calls.Entry.{Entry}
+use Rattle.meter.specs.declared.calls.Usage.{Usage}
 use Rattle.till.specs.declared.drawn.DrawnNumber.{DrawnNumber}
 use Rattle.till.specs.declared.selling.Till.{Till}
 use Rattle.journal.specs.declared.calls.Call.TheVariants.{Enter, Spend}
-use Rattle.journal.specs.declared.calls.Entry.{Entry}
-use Rattle.journal.specs.declared.calls.Usage.{Usage}
 use Rattle.journal.specs.declared.answers.Answer.{Answer}
-use Rattle.journal.specs.Steps.{next_of, entry_answer, spend_answer, Moved, SameDesk, Performed}
+use Rattle.journal.specs.Steps.{entry_answer, spend_answer, SameDesk, Performed}
 use Rattle.till_ledger.specs.Ledgers.{desk_world}
 
-module _ {S : Type 0} (kept : S → Record) (writes : S → ℕ) (after : S → Record → S)
-    (holds : (s : S) (r : Record) → 0 < writes s → kept (after s r) ≡ r)
-    (most : (s : S) (r : Record) → 0 < writes s → writes (after s r) ≤ writes s)
-    (least : (s : S) (r : Record) → 0 < writes s → writes s - 1 ≤ writes (after s r)) where
-  -- one write, where there is one left
-  wrote : (store : S) (next : Record) → 0 < writes store → Moved (Ok next) (kept store) (writes store) (kept (after store next)) (writes (after store next))
-  wrote store next left = (
-    holds store next left,
-    record { left = left; most = most store next left; least = let l = least store next left in omega (arith, l, left) },
-  )
+module _ {C A : Type 0} (t s : Suite) (till : Till C A) (hand : List DrawnNumber) (kept new : Record) (writes left : ℕ) where
+  still : SameDesk (desk_world kept writes till hand) (desk_world new left till hand)
+  still = record { counts = refl; index = refl; hand = refl }
 
-  entry_moves : (s : Suite) (store : S) (text : List ℕ) (v : Result Worth Refusal) → judged s (kept store) (writes store) text ≡ v →
-      Moved (next_of v) (kept store) (writes store) (kept (entry_obeyed after v store)) (writes (entry_obeyed after v store))
-  unfolding judged
-  entry_moves s store text (Ok w) is =
-      let m = standing (kept store) (writes store) in
-      let slip = slip_read s text in
-      let passed = checked_ok (entry_rules s m text) (worth_of s.settings (kept store) (number_in m slip) slip) w is in
-      wrote store w.next (ltb-true 0 (writes store) passed.0.1.1.1.1.1.1.1.1.1.1.1.1.1.0)
-  entry_moves s store text (Err e) is = (refl, refl)
+  pub entered : (e : Entry) (x : Answer) → x ≡ entry_answer (taking (judged s kept writes (vec_items e.text))) →
+      Moved (next_of (judged s kept writes (vec_items e.text))) kept writes new left →
+      Performed t s (Enter e) x (desk_world kept writes till hand) (desk_world new left till hand)
+  entered e x p moved = (p, still, moved)
 
-  spend_moves : (store : S) (amount : ℕ) (v : Result Record Refusal) → spend_judged (kept store) (writes store) amount ≡ v →
-      Moved v (kept store) (writes store) (kept (spend_obeyed after v store)) (writes (spend_obeyed after v store))
-  unfolding spend_judged
-  spend_moves store amount (Ok next) is =
-      let passed = checked_ok (spend_rules (standing (kept store) (writes store)) amount) (spent (kept store) amount) next is in
-      wrote store next (ltb-true 0 (writes store) passed.0.1.1.0)
-  spend_moves store amount (Err e) is = (refl, refl)
-
-  module _ {C A : Type 0} (t s : Suite) (till : Till C A) (hand : List DrawnNumber) (store new : S) where
-    still : SameDesk (desk_world (kept store) (writes store) till hand) (desk_world (kept new) (writes new) till hand)
-    still = record { counts = refl; index = refl; hand = refl }
-
-    pub entry_performed : (e : Entry) (text : List ℕ) (x : Answer) → text ≡ vec_items e.text →
-        x ≡ entry_answer (taking (judged s (kept store) (writes store) text)) → new ≡ entry_obeyed after (judged s (kept store) (writes store) text) store →
-        Performed t s (Enter e) x (desk_world (kept store) (writes store) till hand) (desk_world (kept new) (writes new) till hand)
-    entry_performed e text x is p q =
-        let v = judged s (kept store) (writes store) (vec_items e.text) in
-        let read : judged s (kept store) (writes store) text ≡ v = ap (judged s (kept store) (writes store)) is in
-        let obeyed : new ≡ entry_obeyed after v store = q ∙ ap (λ u. entry_obeyed after u store) read in (
-          p ∙ ap (λ u. entry_answer (taking u)) read,
-          still,
-          subst (λ t. Moved (next_of v) (kept store) (writes store) (kept t) (writes t)) (sym obeyed) (entry_moves s store (vec_items e.text) v refl),
-        )
-
-    pub spend_performed : (u : Usage) (x : Answer) →
-        x ≡ spend_answer (spending u.amount (spend_judged (kept store) (writes store) u.amount)) →
-        new ≡ spend_obeyed after (spend_judged (kept store) (writes store) u.amount) store →
-        Performed t s (Spend u) x (desk_world (kept store) (writes store) till hand) (desk_world (kept new) (writes new) till hand)
-    spend_performed u x p q =
-        let v = spend_judged (kept store) (writes store) u.amount in (
-          p,
-          still,
-          subst (λ t. Moved v (kept store) (writes store) (kept t) (writes t)) (sym q) (spend_moves store u.amount v refl),
-        )
-
--- a meter with its store replaced is the meter with the store that it has then
-pub only_store : {S C A : Type 0} (old new : Meter S C A) (store : S) → new ≡ with_store old store → new ≡ with_store old new.parts.store
-only_store old new store p = p ∙ ap (with_store old) (sym (ap (λ m. m.parts.store) p))
+  pub spent : (u : Usage) (x : Answer) → x ≡ spend_answer (spending u.amount (spend_judged kept writes u.amount)) →
+      Moved (spend_judged kept writes u.amount) kept writes new left →
+      Performed t s (Spend u) x (desk_world kept writes till hand) (desk_world new left till hand)
+  spent u x p moved = (p, still, moved)

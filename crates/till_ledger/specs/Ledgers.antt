@@ -10,7 +10,7 @@ use Rattle.till.specs.declared.drawn.DrawnNumber.{DrawnNumber}
 use Rattle.till.specs.declared.selling.Till.{Till}
 use Rattle.journal.specs.declared.answers.Answer.{Answer}
 use Rattle.journal.specs.declared.calls.Call.{Call}
-use Rattle.journal.specs.declared.calls.Line.{Line}
+use Rattle.journal.specs.Noted.{Line}
 use Rattle.journal.specs.Standings.{World}
 use Rattle.journal.specs.Law.{NewRunKeeps}
 use Rattle.till_ledger.specs.declared.ledger.Ledger.{Ledger}

@@ -1,10 +1,8 @@
 // Single calls at a meter, and any call.
 ghost use Rattle.std.specs.Prelude.{◌≡◌, ℕ, ◌<◌, vec_len, vec_capacity};
-ghost use Rattle.entry.specs.Judging.{judged};
 ghost use Rattle.meter.specs.Meters.{with_store, suite_at};
-ghost use Rattle.meter.specs.Answering.{taking, entry_obeyed, spend_judged, spending, spend_obeyed};
 ghost use Rattle.till.specs.Tills.{with_desk, till_suite};
-ghost use Rattle.journal.specs.Steps.{entry_answer, spend_answer, Performed};
+ghost use Rattle.journal.specs.Steps.{Performed};
 ghost use Rattle.till_ledger.specs.Ledgers.{world_of};
 
 use crate::desk::{draw, issue, void};
@@ -16,26 +14,6 @@ use meter::service::Meter;
 use store::Store;
 use till::drawn::DrawnNumber;
 use till::selling::Till;
-
-fn enter<S: Store, C: Cipher, A: Authenticator>(meter: &mut Meter<S, C, A>, text: &[u8]) -> Answer
-    ensures answer { result ≡ entry_answer (taking (judged (suite_at C.enciphered C.deciphered A.tagged meter.old) (S.kept meter.old.parts.store) (S.writes meter.old.parts.store) text.now)) }
-    ensures after { meter.new ≡ with_store meter.old (entry_obeyed S.after (judged (suite_at C.enciphered C.deciphered A.tagged meter.old) (S.kept meter.old.parts.store) (S.writes meter.old.parts.store) text.now) meter.old.parts.store) }
-{
-    match meter.enter(text) {
-        Ok(taken) => Answer::Taken(taken),
-        Err(refusal) => Answer::Refused(refusal),
-    }
-}
-
-fn spend<S: Store, C: Cipher, A: Authenticator>(meter: &mut Meter<S, C, A>, amount: u32) -> Answer
-    ensures answer { result ≡ spend_answer (spending amount (spend_judged (S.kept meter.old.parts.store) (S.writes meter.old.parts.store) amount)) }
-    ensures after { meter.new ≡ with_store meter.old (spend_obeyed S.after (spend_judged (S.kept meter.old.parts.store) (S.writes meter.old.parts.store) amount) meter.old.parts.store) }
-{
-    match meter.spend(amount) {
-        Ok(spent) => Answer::Spent(spent),
-        Err(refusal) => Answer::Refused(refusal),
-    }
-}
 
 // One call: what it did to till, hand and meter, and that it left all else of till and meter as it was.
 pub(crate) fn perform_at<S: Store, C: Cipher, A: Authenticator>(
@@ -54,7 +32,7 @@ pub(crate) fn perform_at<S: Store, C: Cipher, A: Authenticator>(
         Call::Draw => draw(till, hand),
         Call::Issue(order) => issue(till, hand, order),
         Call::Void(cancellation) => void(till, hand, cancellation),
-        Call::Enter(entry) => enter(meter, &entry.text),
-        Call::Spend(used) => spend(meter, used.amount),
+        Call::Enter(entry) => meter.enter(&entry.text).into(),
+        Call::Spend(used) => meter.spend(used.amount).into(),
     }
 }

@@ -4,7 +4,7 @@ use Rattle.std.specs.Prelude.{[], ◌∷◌, ◌++◌, replicate, codes}
 use Rattle.till.specs.Counting.{no_counts}
 use Rattle.journal.specs.declared.answers.Answer.TheVariants.{Drawn, Issued}
 use Rattle.journal.specs.declared.calls.Call.TheVariants.{Draw, Issue}
-use Rattle.journal.specs.declared.calls.Line.{Line}
+use Rattle.journal.specs.Noted.{Line}
 use Rattle.journal.specs.declared.calls.Order.{Order}
 use Rattle.journal.specs.Law.{Law, Due}
 use Rattle.journal.specs.Standings.{World, NewWorld}

@@ -1,6 +1,6 @@
 use Rattle.std.proofs.Common.{ℕ, ◌+◌, ◌<◌, List, length, get_or, drop, sym, refl, subst}
 use Rattle.std.proofs.lemmas.List.{drop_more, drop_all}
-use Rattle.journal.specs.declared.calls.Line.{Line}
+use Rattle.journal.specs.Noted.{Line}
 use Rattle.till_ledger.specs.Ledgers.{journal_of}
 use Rattle.day.specs.declared.plan.Deed.{Deed}
 use Rattle.day.specs.Deeds.{wanted}

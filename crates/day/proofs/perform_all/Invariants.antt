@@ -1,5 +1,5 @@
 use Rattle.std.proofs.Common.{List, drop}
-use Rattle.journal.specs.declared.calls.Line.{Line}
+use Rattle.journal.specs.Noted.{Line}
 use Rattle.till_ledger.specs.Ledgers.{journal_of}
 use Rattle.day.specs.Days.{Kept, AllNoted}
 use Rattle.day.proofs.perform_all.Given as goal

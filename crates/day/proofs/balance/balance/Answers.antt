@@ -1,6 +1,6 @@
 use Rattle.std.proofs.Common.{◌≡◌, ℕ, ◌+◌, ◌^◌, ◌<◌, ◌≤◌, ap, arith}
 use Rattle.journal.specs.Lines.{deal, how_many}
-use Rattle.journal.specs.declared.calls.Line.{Line}
+use Rattle.journal.specs.Noted.{Line}
 use Rattle.day.specs.Balances.{amount_taken, amount_spent}
 use Rattle.day.specs.declared.sums.Share.{Share}
 use Rattle.day.proofs.Adding.{SoFar, far_more, far_all, far_small}

@@ -3,39 +3,36 @@ use Rattle.refusal.specs.Checks.{provided}
 use Rattle.refusal.specs.declared.Refusal.TheVariants.{Sale as NoSale, TillIndexFull}
 use Rattle.token.specs.SubClasses.{sub_class_named}
 use Rattle.entry.specs.Rules.{raisable}
-use Rattle.sealing.specs.Suites.{Sound, suite}
+use Rattle.sealing.specs.Suites.{Sound, suite_of}
+use Rattle.sealing.specs.declared.sealer.Sealer.{Sealer}
+use Rattle.sealing.proofs.Soundness.{sound_of}
 use Rattle.sale.specs.declared.checking.Ready.{Ready}
 use Rattle.sale.specs.Slips.{slip_for}
 use Rattle.sale.proofs.Printed.{was_ready, writes, prints}
 use Rattle.sale.proofs.printing.print_slip.Given as given
 use Rattle.sale.proofs.printing.print_slip.Goals as goal
 
-abbrev keeps : (g : given.Over) (settings : _) (c : g.row.C.Denot) (a : g.row.A.Denot) → Sound (suite settings (g.C.Cipher.enciphered c) (g.C.Cipher.deciphered c) (g.A.Authenticator.tagged a))
-keeps g settings c a = record {
-  below = g.met.C.Cipher.below c;
-  undone = g.met.C.Cipher.undone c;
-  sixteen = g.met.A.Authenticator.sixteen a;
-  bytes = g.met.A.Authenticator.bytes a;
-}
+abbrev keeps : (g : given.Over) (s : Sealer g.row.C.Denot g.row.A.Denot) → Sound (suite_of g.C.Cipher.enciphered g.C.Cipher.deciphered g.A.Authenticator.tagged s)
+keeps g s = sound_of g.C.Cipher.enciphered g.C.Cipher.deciphered g.A.Authenticator.tagged g.met.C.Cipher.below g.met.C.Cipher.undone g.met.A.Authenticator.sixteen g.met.A.Authenticator.bytes s
 
 pub unwrap-length-requires : goal.unwrap-length-requires
 unwrap-length-requires g c =
-    let s = c.args.settings.now in
+    let s = c.args.sealer.now.settings in
     let sale = c.args.sale.now in
     let ready = was_ready s sale c.in-Some.ready c.in-Some.ensures in
-    writes _ (keeps g s c.args.cipher.now c.args.authenticator.now) c.args.number c.args.index sale ready.0
+    writes _ (keeps g c.args.sealer.now) c.args.number c.args.index sale ready.0
     c.seal-blocks.result c.present_of.result.now c.seal-blocks.ensures c.present_of.ensures c.write_blocks.result c.write_blocks.ensures.answer
 
 pub returns : goal.returns
 returns g c =
-    let s = c.args.settings.now in
+    let s = c.args.sealer.now.settings in
     let sale = c.args.sale.now in
     let index = c.args.index in
-    let agreed = suite s (g.C.Cipher.enciphered c.args.cipher.now) (g.C.Cipher.deciphered c.args.cipher.now) (g.A.Authenticator.tagged c.args.authenticator.now) in
+    let agreed = suite_of g.C.Cipher.enciphered g.C.Cipher.deciphered g.A.Authenticator.tagged c.args.sealer.now in
     let ready = was_ready s sale c.in-Some.ready c.in-Some.ensures in
     let k : c.in-Some.ready.subclass ≡ sub_class_named sale.subclass = ap (λ (r : Ready). r.subclass) ready.1 in
     let up : raisable (sub_class_named sale.subclass) index ≡ true = ap (λ x. raisable x index) (sym k) ∙ sym c.if-not-is_raisable.ensures in
-    let out = prints agreed (keeps g s c.args.cipher.now c.args.authenticator.now) c.args.number index sale ready.0
+    let out = prints agreed (keeps g c.args.sealer.now) c.args.number index sale ready.0
     c.seal-blocks.result c.present_of.result.now c.seal-blocks.ensures c.present_of.ensures c.write_blocks.result c.unwrap-length.result
     c.args.slip.now c.write_blocks.new.slip c.write_blocks.ensures.answer c.unwrap-length.ensures c.write_blocks.ensures.bytes in
     record {

@@ -1,10 +1,13 @@
-use Rattle.std.proofs.Common.{vec_items, sym, refl, ap, subst}
+use Rattle.std.proofs.Common.{vec_items, sym, refl, ap, ◌∙◌, subst}
+use Rattle.entry.specs.Judging.{judged}
+use Rattle.meter.specs.Answering.{taking}
+use Rattle.meter.proofs.Obeying.{entry_kept, spend_kept, only_store}
 use Rattle.meter.specs.Meters.{suite_at}
 use Rattle.till.specs.Tills.{till_suite}
 use Rattle.journal.specs.declared.calls.Call.{Call}
-use Rattle.journal.specs.Steps.{Performed}
+use Rattle.journal.specs.Steps.{entry_answer, spend_answer, Performed}
 use Rattle.till_ledger.specs.Ledgers.{world_of}
-use Rattle.till_ledger.proofs.Obeying.{entry_performed, spend_performed, only_store}
+use Rattle.till_ledger.proofs.Obeying.{entered, spent}
 use Rattle.till_ledger.proofs.steps.perform_at.Goals as goal
 
 pub returns-in-Draw : goal.returns-in-Draw
@@ -55,19 +58,20 @@ returns-in-Void g c =
 pub returns-in-Enter : goal.returns-in-Enter
 returns-in-Enter g c =
     let m = c.args.meter.now in
-    let n = c.enter.new.meter in
+    let n = c.enter.new.self in
     let till = c.args.till.now in
     let hand = vec_items c.args.hand.now in
-    let kept = g.S.Store.kept in
-    let writes = g.S.Store.writes in
+    let store = g.S.Store in
     let met = g.met.S.Store in
     let t = till_suite g.C.Cipher.enciphered g.C.Cipher.deciphered g.A.Authenticator.tagged till in
     let s = suite_at g.C.Cipher.enciphered g.C.Cipher.deciphered g.A.Authenticator.tagged m in
+    let same = c.deref.ensures.value in
     record {
-      did = subst (λ (call : Call). Performed t s call c.enter.result (world_of kept writes till hand m) (world_of kept writes till hand n)) (sym c.in-Enter.is)
-          (entry_performed kept writes g.S.Store.after met.holds met.most met.least t s till hand m.parts.store n.parts.store
-          c.in-Enter.entry c.deref.result.now c.enter.result c.deref.ensures.value
-          c.enter.ensures.answer (ap (λ x. x.parts.store) c.enter.ensures.after));
+      did = subst (λ (call : Call). Performed t s call c.into.result (world_of store.kept store.writes till hand m) (world_of store.kept store.writes till hand n)) (sym c.in-Enter.is)
+          (entered t s till hand _ _ _ _ c.in-Enter.entry c.into.result
+          (c.into.ensures ∙ ap entry_answer (c.enter.ensures.answer ∙ ap (λ text. taking (judged s (store.kept m.parts.store) (store.writes m.parts.store) text)) same))
+          (entry_kept store.kept store.writes store.after met.holds met.most met.least s
+          m.parts.store n.parts.store c.deref.result.now (vec_items c.in-Enter.entry.text) same (ap (λ x. x.parts.store) c.enter.ensures.after)));
       meter = only_store m n _ c.enter.ensures.after;
       till = refl;
       capacity = refl;
@@ -76,19 +80,19 @@ returns-in-Enter g c =
 pub returns-in-Spend : goal.returns-in-Spend
 returns-in-Spend g c =
     let m = c.args.meter.now in
-    let n = c.spend.new.meter in
+    let n = c.spend.new.self in
     let till = c.args.till.now in
     let hand = vec_items c.args.hand.now in
-    let kept = g.S.Store.kept in
-    let writes = g.S.Store.writes in
+    let store = g.S.Store in
     let met = g.met.S.Store in
     let t = till_suite g.C.Cipher.enciphered g.C.Cipher.deciphered g.A.Authenticator.tagged till in
     let s = suite_at g.C.Cipher.enciphered g.C.Cipher.deciphered g.A.Authenticator.tagged m in
     record {
-      did = subst (λ (call : Call). Performed t s call c.spend.result (world_of kept writes till hand m) (world_of kept writes till hand n)) (sym c.in-Spend.is)
-          (spend_performed kept writes g.S.Store.after met.holds met.most met.least t s till hand m.parts.store n.parts.store
-          c.in-Spend.used c.spend.result
-          c.spend.ensures.answer (ap (λ x. x.parts.store) c.spend.ensures.after));
+      did = subst (λ (call : Call). Performed t s call c.into-in-Spend.result (world_of store.kept store.writes till hand m) (world_of store.kept store.writes till hand n)) (sym c.in-Spend.is)
+          (spent t s till hand _ _ _ _ c.in-Spend.used c.into-in-Spend.result
+          (c.into-in-Spend.ensures ∙ ap spend_answer c.spend.ensures.answer)
+          (spend_kept store.kept store.writes store.after met.holds met.most met.least
+          m.parts.store n.parts.store c.in-Spend.used.amount (ap (λ x. x.parts.store) c.spend.ensures.after)));
       meter = only_store m n _ c.spend.ensures.after;
       till = refl;
       capacity = refl;

@@ -1,5 +1,7 @@
 use Rattle.std.proofs.Common.{◌≡◌, [], ◌∷◌, ◌++◌, vec_items, sym, refl, ap, ◌∙◌, subst}
-use Rattle.sealing.specs.Suites.{Sound, suite}
+use Rattle.sealing.specs.Suites.{Sound, suite_of}
+use Rattle.sealing.specs.declared.sealer.Sealer.{Sealer}
+use Rattle.sealing.proofs.Soundness.{sound_of}
 use Rattle.meter.specs.Meters.{with_store, suite_at}
 use Rattle.till.specs.Tills.{till_suite}
 use Rattle.journal.specs.Steps.{Performed}
@@ -8,13 +10,8 @@ use Rattle.till_ledger.specs.Ledgers.{world_of, line_of}
 use Rattle.till_ledger.proofs.ledger.Ledger.note.Given as given
 use Rattle.till_ledger.proofs.ledger.Ledger.note.Goals as goal
 
-abbrev keeps : (g : given.Over) (settings : _) (c : g.row.C.Denot) (a : g.row.A.Denot) → Sound (suite settings (g.C.Cipher.enciphered c) (g.C.Cipher.deciphered c) (g.A.Authenticator.tagged a))
-keeps g settings c a = record {
-  below = g.met.C.Cipher.below c;
-  undone = g.met.C.Cipher.undone c;
-  sixteen = g.met.A.Authenticator.sixteen a;
-  bytes = g.met.A.Authenticator.bytes a;
-}
+abbrev keeps : (g : given.Over) (s : Sealer g.row.C.Denot g.row.A.Denot) → Sound (suite_of g.C.Cipher.enciphered g.C.Cipher.deciphered g.A.Authenticator.tagged s)
+keeps g s = sound_of g.C.Cipher.enciphered g.C.Cipher.deciphered g.A.Authenticator.tagged g.met.C.Cipher.below g.met.C.Cipher.undone g.met.A.Authenticator.sixteen g.met.A.Authenticator.bytes s
 
 pub returns : goal.returns
 returns g c =
@@ -47,7 +44,7 @@ returns g c =
       opening = refl;
       capacity = (c.push_reserved.ensures.capacity, DidAt.capacity);
       lawful = λ before.
-          continued (of_till old.till) (of_till till) (of_meter m) (of_meter last) (keeps g m.parts.settings m.parts.cipher m.parts.authenticator) _
+          continued (of_till old.till) (of_till till) (of_meter m) (of_meter last) (keeps g m.parts.sealer) _
           (vec_items old.lines) (vec_items c.push_reserved.new.self) _ (world_of kept writes till hand last) c.args.call x
           (ap of_till DidAt.till) (ap of_meter only) noted did before;
     }

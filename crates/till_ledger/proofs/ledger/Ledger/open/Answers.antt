@@ -1,5 +1,7 @@
 use Rattle.std.proofs.Common.{◌≡◌, [], sym, refl, ap, ◌∙◌}
-use Rattle.sealing.specs.Suites.{Sound, suite}
+use Rattle.sealing.specs.Suites.{Sound, suite_of}
+use Rattle.sealing.specs.declared.sealer.Sealer.{Sealer}
+use Rattle.sealing.proofs.Soundness.{sound_of}
 use Rattle.meter.specs.Meters.{suite_at}
 use Rattle.till.specs.Tills.{till_suite}
 use Rattle.journal.specs.Standings.{World}
@@ -8,13 +10,8 @@ use Rattle.till_ledger.specs.Ledgers.{world_of}
 use Rattle.till_ledger.proofs.ledger.Ledger.open.Given as given
 use Rattle.till_ledger.proofs.ledger.Ledger.open.Goals as goal
 
-abbrev keeps : (g : given.Over) (settings : _) (c : g.row.C.Denot) (a : g.row.A.Denot) → Sound (suite settings (g.C.Cipher.enciphered c) (g.C.Cipher.deciphered c) (g.A.Authenticator.tagged a))
-keeps g settings c a = record {
-  below = g.met.C.Cipher.below c;
-  undone = g.met.C.Cipher.undone c;
-  sixteen = g.met.A.Authenticator.sixteen a;
-  bytes = g.met.A.Authenticator.bytes a;
-}
+abbrev keeps : (g : given.Over) (s : Sealer g.row.C.Denot g.row.A.Denot) → Sound (suite_of g.C.Cipher.enciphered g.C.Cipher.deciphered g.A.Authenticator.tagged s)
+keeps g s = sound_of g.C.Cipher.enciphered g.C.Cipher.deciphered g.A.Authenticator.tagged g.met.C.Cipher.below g.met.C.Cipher.undone g.met.A.Authenticator.sixteen g.met.A.Authenticator.bytes s
 
 pub returns : goal.returns
 returns g c =
@@ -40,5 +37,5 @@ returns g c =
       hand = c.new.ensures.items;
       start = is;
       journal = c.new-2.ensures.items;
-      lawful = opened t (agreed last) (keeps g last.parts.settings last.parts.cipher last.parts.authenticator) start _ _ c.new-2.ensures.items (sym at_last ∙ sym is);
+      lawful = opened t (agreed last) (keeps g last.parts.sealer) start _ _ c.new-2.ensures.items (sym at_last ∙ sym is);
     }

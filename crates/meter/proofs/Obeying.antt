@@ -1,5 +1,5 @@
--- A store that obeys a verdict moves as the verdict says: entry_performed, spend_performed; only_store.
-use Rattle.std.proofs.Common.{◌≡◌, ℕ, ◌-◌, ◌<◌, ◌≤◌, List, Ok, Err, vec_items, Result, sym, refl, ap, ◌∙◌, subst, arith}
+-- A store that obeys a verdict moves as the verdict says: entry_kept, spend_kept; only_store.
+use Rattle.std.proofs.Common.{◌≡◌, ℕ, ◌-◌, ◌<◌, ◌≤◌, List, Ok, Err, Result, sym, refl, ap, ◌∙◌, subst, arith}
 use Rattle.std.proofs.lemmas.Bool.{ltb-true}
 use Rattle.refusal.specs.declared.Refusal.{Refusal}
 use Rattle.refusal.proofs.Passing.{checked_ok}
@@ -11,13 +11,9 @@ use Rattle.entry.specs.Reading.{slip_read}
 use Rattle.entry.specs.Rules.{standing, number_in, entry_rules}
 use Rattle.entry.specs.Judging.{worth_of, judged}
 use Rattle.meter.specs.Meters.{with_store}
-use Rattle.meter.specs.Answering.{taking, entry_obeyed, spend_rules, spend_judged, spending, spend_obeyed}
-use Rattle.meter.specs.declared.answers.Answer.{Answer}
+use Rattle.meter.specs.Answering.{entry_obeyed, spend_rules, spend_judged, spend_obeyed}
+use Rattle.meter.specs.Writing.{next_of, Moved}
 use Rattle.meter.specs.declared.service.Meter.{Meter}
-use Rattle.ledger.specs.declared.calls.Call.TheVariants.{Enter, Spend}
-use Rattle.ledger.specs.declared.calls.Entry.{Entry}
-use Rattle.ledger.specs.declared.calls.Usage.{Usage}
-use Rattle.ledger.specs.Steps.{next_of, entry_answer, spend_answer, Moved, Performed}
 
 module _ {S : Type 0} (kept : S → Record) (writes : S → ℕ) (after : S → Record → S)
     (holds : (s : S) (r : Record) → 0 < writes s → kept (after s r) ≡ r)
@@ -48,24 +44,19 @@ module _ {S : Type 0} (kept : S → Record) (writes : S → ℕ) (after : S → 
       wrote store next (ltb-true 0 (writes store) passed.0.1.1.0)
   spend_moves store amount (Err e) is = (refl, refl)
 
-  pub entry_performed : (s : Suite) (store new : S) (e : Entry) (text : List ℕ) (x : Answer) → text ≡ vec_items e.text →
-      x ≡ entry_answer (taking (judged s (kept store) (writes store) text)) → new ≡ entry_obeyed after (judged s (kept store) (writes store) text) store →
-      Performed s (Enter e) x (kept store) (writes store) (kept new) (writes new)
-  entry_performed s store new e text x is p q =
-      let v = judged s (kept store) (writes store) (vec_items e.text) in
-      let read : judged s (kept store) (writes store) text ≡ v = ap (judged s (kept store) (writes store)) is in
-      let obeyed : new ≡ entry_obeyed after v store = q ∙ ap (λ u. entry_obeyed after u store) read in (
-        p ∙ ap (λ u. entry_answer (taking u)) read,
-        subst (λ t. Moved (next_of v) (kept store) (writes store) (kept t) (writes t)) (sym obeyed) (entry_moves s store (vec_items e.text) v refl),
-      )
+  -- a store that came to obey the verdict on an entry, or on a spend, moved as it says
+  pub entry_kept : (s : Suite) (store new : S) (text bytes : List ℕ) → text ≡ bytes → new ≡ entry_obeyed after (judged s (kept store) (writes store) text) store →
+      Moved (next_of (judged s (kept store) (writes store) bytes)) (kept store) (writes store) (kept new) (writes new)
+  entry_kept s store new text bytes is p =
+      let v = judged s (kept store) (writes store) in
+      subst (λ t. Moved (next_of (v bytes)) (kept store) (writes store) (kept t) (writes t)) (sym (p ∙ ap (λ xs. entry_obeyed after (v xs) store) is))
+      (entry_moves s store bytes (v bytes) refl)
 
-  pub spend_performed : (s : Suite) (store new : S) (u : Usage) (x : Answer) →
-      x ≡ spend_answer (spending u.amount (spend_judged (kept store) (writes store) u.amount)) →
-      new ≡ spend_obeyed after (spend_judged (kept store) (writes store) u.amount) store →
-      Performed s (Spend u) x (kept store) (writes store) (kept new) (writes new)
-  spend_performed s store new u x p q =
-      let v = spend_judged (kept store) (writes store) u.amount in
-      (p, subst (λ t. Moved v (kept store) (writes store) (kept t) (writes t)) (sym q) (spend_moves store u.amount v refl))
+  pub spend_kept : (store new : S) (amount : ℕ) → new ≡ spend_obeyed after (spend_judged (kept store) (writes store) amount) store →
+      Moved (spend_judged (kept store) (writes store) amount) (kept store) (writes store) (kept new) (writes new)
+  spend_kept store new amount p =
+      let v = spend_judged (kept store) (writes store) amount in
+      subst (λ t. Moved v (kept store) (writes store) (kept t) (writes t)) (sym p) (spend_moves store amount v refl)
 
 -- a meter with its store replaced is the meter with the store that it has then
 pub only_store : {S C A : Type 0} (old new : Meter S C A) (store : S) → new ≡ with_store old store → new ≡ with_store old new.parts.store
