@@ -17,13 +17,14 @@ use crate::balance::{agree, balance};
 use crate::keying::call_of;
 use crate::plan::{AFTERNOON, Deed, EVENING, MORNING, NOON};
 use crate::sums::Closing;
-use crate::telling::{closing_text, line_text};
+use crate::telling::{EndInWords, LineInWords};
 use authenticator::byte_sum::ByteSum;
 use cipher::clear::Clear;
 use journal::calls::Line;
 use meter::fitted::FittedMeter;
 use std::alloc::{AllocError, Global};
 use store::PlainStore;
+use till::drawn::DrawnNumber;
 use till::selling::Till;
 use till_ledger::closing::{Closed, void_all};
 use till_ledger::ledger::Ledger;
@@ -120,8 +121,13 @@ fn run_day(
 
 fn show(rt: &HostRuntime, lines: &[Line]) -> anyhow::Result<()> {
     for line in lines {
-        rt.println(line_text(rt.alloc(), line)?)?;
+        rt.println(LineInWords(line))?;
     }
+    Ok(())
+}
+
+fn show_end(rt: &HostRuntime, closing: &Closing, hand: &[DrawnNumber]) -> anyhow::Result<()> {
+    rt.println(EndInWords { closing, hand })?;
     Ok(())
 }
 
@@ -131,8 +137,7 @@ fn work(rt: &HostRuntime, ledger: &mut Ledger<PlainStore, Clear, ByteSum>) -> an
 {
     let closing = run_day(ledger, rt.alloc())?;
     show(rt, ledger.lines())?;
-    rt.println(closing_text(rt.alloc(), &closing, ledger.hand())?)?;
-    Ok(())
+    show_end(rt, &closing, ledger.hand())
 }
 
 fn day(rt: &HostRuntime) -> anyhow::Result<()> {

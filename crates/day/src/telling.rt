@@ -2,155 +2,102 @@
 use crate::sums::Closing;
 use journal::answers::{Answer, Issued};
 use journal::calls::{Call, Line, Order};
-use refusal::Refusal;
-use std::alloc::{AllocError, Global};
+use std::fmt;
 use till::drawn::DrawnNumber;
 
-// Why a call was refused.
-fn reason(refusal: Refusal) -> &'static str {
-    match refusal {
-        Refusal::Length => "not 20, 40, 60 or 80 digits",
-        Refusal::NotADigit => "a byte is no digit",
-        Refusal::CheckDigit => "a check digit is wrong",
-        Refusal::NoBlock => "a number has no block",
-        Refusal::OtherSubClass => "no such SubClass",
-        Refusal::WrongBlocks => "blocks that make no slip",
-        Refusal::IndexFull => "the meter's index is at its end",
-        Refusal::OutsideWindow => "no such number in the window",
-        Refusal::WrongTag => "the tag is wrong",
-        Refusal::AlreadyCounted => "the number was counted before",
-        Refusal::ReservedConfig => "a reserved multiplier",
-        Refusal::RatePrices => "a rule of rate prices is broken",
-        Refusal::AboveCeiling => "the credit would pass the ceiling",
-        Refusal::NoWrites => "no writes are left",
-        Refusal::SpendAmount => "no amount to be spent",
-        Refusal::SpendAboveCredit => "more than the credit",
-        Refusal::Settings => "settings outside their limits",
-        Refusal::Sale => "a sale that no slip can carry",
-        Refusal::TillIndexFull => "the till's index is at its end",
-        Refusal::NoMoreNumbers => "every number was drawn",
-        Refusal::ShortMemory => "too little memory",
-        Refusal::WriteBehindLength => "a length outside its limits",
+// A line of the journal.
+#[derive(Clone, Copy)]
+pub(crate) struct LineInWords<'a>(pub(crate) &'a Line);
+
+// The end of a day, in five lines.
+#[derive(Clone, Copy)]
+pub(crate) struct EndInWords<'a> {
+    pub(crate) closing: &'a Closing,
+    pub(crate) hand: &'a [DrawnNumber],
+}
+
+// What an issue asked.
+fn write_order<W: fmt::Write>(order: &Order, f: &mut fmt::Formatter<W>) -> fmt::Result {
+    let sale = &order.sale;
+    write!(f, "issue of {}, SubClass {}", order.number, sale.subclass)?;
+    write!(f, ", AMTConfig {}, AMT {}", sale.config, sale.amt)?;
+    match sale.prices {
+        Some(list) => write!(f, ", {} prices", list.count),
+        None => Ok(()),
     }
 }
 
 // What was asked, in a few words.
-fn asked(heap: Global, call: &Call) -> Result<String, AllocError> {
+fn write_call<W: fmt::Write>(call: &Call, f: &mut fmt::Formatter<W>) -> fmt::Result {
     match call {
-        Call::Draw => String::from_str(heap, "draw"),
-        Call::Issue(order) => issue_asked(heap, order),
-        Call::Void(cancellation) => {
-            let number = cancellation.number;
-            format!(in heap; "void of {number}")
-        }
-        Call::Enter(_) => String::from_str(heap, "entry"),
-        Call::Spend(usage) => {
-            let amount = usage.amount;
-            format!(in heap; "spend of {amount}")
-        }
-    }
-}
-
-fn issue_asked(heap: Global, order: &Order) -> Result<String, AllocError> {
-    let number = order.number;
-    let subclass = order.sale.subclass;
-    let config = order.sale.config;
-    let amt = order.sale.amt;
-    match order.sale.prices {
-        None => format!(in heap;
-            "issue of {number}, SubClass {subclass}, AMTConfig {config}, AMT {amt}"
-        ),
-        Some(list) => {
-            let count = list.count;
-            format!(in heap;
-                "issue of {number}, SubClass {subclass}, AMTConfig {config}, AMT {amt}, {count} prices"
-            )
-        }
+        Call::Draw => f.write_str("draw"),
+        Call::Issue(order) => write_order(order, f),
+        Call::Void(cancellation) => write!(f, "void of {}", cancellation.number),
+        Call::Enter(_) => f.write_str("entry"),
+        Call::Spend(usage) => write!(f, "spend of {}", usage.amount),
     }
 }
 
 // The digits of a slip in groups of four, each with a blank before it.
-fn grouped(heap: Global, slip: &Issued) -> Result<String, AllocError> {
-    let mut text = String::new(heap);
+fn write_groups<W: fmt::Write>(slip: &Issued, f: &mut fmt::Formatter<W>) -> fmt::Result {
     for (i, byte) in slip.slip.iter().take(slip.length).enumerate() {
         if i % 4 == 0 {
-            text.push(' ')?;
+            f.write_char(' ')?;
         }
-        text.push(char::from(*byte))?;
+        f.write_char(char::from(*byte))?;
     }
-    Ok(text)
+    Ok(())
 }
 
 // What was answered, to stand after what was asked.
-fn answered(heap: Global, answer: &Answer) -> Result<String, AllocError> {
+fn write_answer<W: fmt::Write>(answer: &Answer, f: &mut fmt::Formatter<W>) -> fmt::Result {
     match answer {
-        Answer::Drawn(drawn) => {
-            let number = drawn.number;
-            format!(in heap; ": number {number}")
-        }
+        Answer::Drawn(drawn) => write!(f, ": number {}", drawn.number),
         Answer::Issued(slip) => {
-            let digits = grouped(heap, slip)?;
-            format!(in heap; ":{digits}")
+            f.write_str(":")?;
+            write_groups(slip, f)
         }
-        Answer::Voided => String::from_str(heap, ""),
+        Answer::Voided => Ok(()),
         Answer::Taken(taken) => {
-            let number = taken.number;
-            let amount = taken.amount;
-            let credit = taken.credit;
-            format!(in heap; " taken: number {number}, amount {amount}, credit {credit}")
+            write!(
+                f,
+                " taken: number {}, amount {}",
+                taken.number, taken.amount
+            )?;
+            write!(f, ", credit {}", taken.credit)
         }
-        Answer::Spent(spent) => {
-            let credit = spent.credit;
-            format!(in heap; ": credit {credit}")
-        }
-        Answer::NotInHand => String::from_str(heap, " refused: not in hand"),
-        Answer::Refused(refusal) => {
-            let number = refusal.number();
-            let why = reason(*refusal);
-            format!(in heap; " refused: {number}, {why}")
-        }
+        Answer::Spent(spent) => write!(f, ": credit {}", spent.credit),
+        Answer::NotInHand => f.write_str(" refused: not in hand"),
+        Answer::Refused(refusal) => write!(f, " refused: {}, {}", refusal.number(), refusal),
     }
 }
 
-// A line of the journal.
-pub(crate) fn line_text(heap: Global, line: &Line) -> Result<String, AllocError> {
-    let mut text = asked(heap, &line.call)?;
-    text.push_str(answered(heap, &line.answer)?.as_str())?;
-    Ok(text)
-}
-
-// The numbers in hand, each with a blank before it.
-fn numbers(heap: Global, hand: &[DrawnNumber]) -> Result<String, AllocError> {
-    let mut text = String::new(heap);
-    for drawn in hand {
-        let number = drawn.number();
-        text.push_str(format!(in heap; " {number}")?.as_str())?;
+impl fmt::Display for LineInWords<'_> {
+    fn fmt<W: fmt::Write>(&self, f: &mut fmt::Formatter<W>) -> fmt::Result {
+        write_call(&self.0.call, f)?;
+        write_answer(&self.0.answer, f)
     }
-    Ok(text)
 }
 
-// The end of a day, in five lines.
-pub(crate) fn closing_text(
-    heap: Global,
-    closing: &Closing,
-    hand: &[DrawnNumber],
-) -> Result<String, AllocError> {
-    let Closing {
-        opened,
-        credit,
-        balance,
-        counts,
-        in_hand,
-        agrees,
-    } = *closing;
-    let taken = balance.taken;
-    let spent = balance.spent;
-    let draws = counts.draws();
-    let issues = counts.issues();
-    let voids = counts.voids();
-    let held = numbers(heap, hand)?;
-    let verdict = if agrees { "agree" } else { "do not agree" };
-    format!(in heap;
-        "closing balance\nopening credit {opened}, taken {taken}, spent {spent}, credit {credit}\ndraws {draws}, issues {issues}, voids {voids}, in hand {in_hand}\nin hand:{held}\nthe sums {verdict}"
-    )
+impl fmt::Display for EndInWords<'_> {
+    fn fmt<W: fmt::Write>(&self, f: &mut fmt::Formatter<W>) -> fmt::Result {
+        let Closing {
+            opened,
+            credit,
+            balance,
+            counts,
+            in_hand,
+            agrees,
+        } = *self.closing;
+        f.write_str("closing balance\n")?;
+        write!(f, "opening credit {opened}, taken {}", balance.taken)?;
+        write!(f, ", spent {}, credit {credit}\n", balance.spent)?;
+        write!(f, "draws {}, issues {}", counts.draws(), counts.issues())?;
+        write!(f, ", voids {}, in hand {in_hand}\nin hand:", counts.voids())?;
+        for drawn in self.hand {
+            write!(f, " {}", drawn.number())?;
+        }
+        let verdict = if agrees { "agree" } else { "do not agree" };
+        write!(f, "\nthe sums {verdict}")
+    }
 }

@@ -4,7 +4,7 @@ use Rattle.std.specs.Prelude.{◌≡◌, ℕ, ◌^◌, ◌<◌, Bool, cond, ◌&
 use Rattle.std.specs.Int.Digits.{number_from_digits}
 use Rattle.decimal.specs.Digits.{is_digit, every, values}
 use Rattle.lines.specs.declared.asking.Request.{Request}
-use Rattle.lines.specs.declared.asking.Request.TheVariants.{Enter, Spend, Unknown}
+use Rattle.lines.specs.declared.asking.Request.TheVariants.{Enter, Spend}
 
 -- enter these bytes, spend this amount, or nothing that is known
 pub data Asked : Type 0 where
@@ -12,11 +12,11 @@ pub data Asked : Type 0 where
   spend : ℕ → Asked
   unknown : Asked
 
--- a request with the bytes that it borrows
-abbrev pub plain : Request → Asked
-plain (Enter text) = entry text.now
-plain (Spend amount) = spend amount
-plain Unknown = unknown
+-- a request with the bytes that it borrows, if there is one
+abbrev pub plain : Option Request → Asked
+plain (Some (Enter text)) = entry text.now
+plain (Some (Spend amount)) = spend amount
+plain None = unknown
 
 -- One to nine decimal digits, zeros in front among them, spell an amount; nothing else does.
 unfoldable pub amount_of : List ℕ → Option ℕ

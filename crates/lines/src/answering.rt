@@ -8,17 +8,18 @@ use std::alloc::{AllocError, Global};
 fn taken_line(heap: Global, taken: Taken) -> Result<String, AllocError>
     ensures { IfOk result (λ line. string_bytes line ≡ codes "A" ++ spaced (taken.number ∷ taken.amount ∷ taken.credit ∷ [])) }
 {
-    let number = taken.number;
-    let amount = taken.amount;
-    let credit = taken.credit;
+    let Taken {
+        number,
+        amount,
+        credit,
+    } = taken;
     format!(in heap; "A {number} {amount} {credit}")
 }
 
 fn spent_line(heap: Global, spent: Spent) -> Result<String, AllocError>
     ensures { IfOk result (λ line. string_bytes line ≡ codes "S" ++ spaced (spent.amount ∷ spent.credit ∷ [])) }
 {
-    let amount = spent.amount;
-    let credit = spent.credit;
+    let Spent { amount, credit } = spent;
     format!(in heap; "S {amount} {credit}")
 }
 

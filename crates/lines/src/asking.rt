@@ -5,14 +5,13 @@ ghost use Rattle.lines.specs.Asking.{amount_of, request_of, plain, RequestsRead}
 // The most digits of an amount. So many always fit 32 bits.
 const MOST_DIGITS: usize = 9;
 
+// What a line may ask.
 #[derive(Clone, Copy)]
 pub enum Request<'a> {
     // Key this text into the meter.
     Enter { text: &'a [u8] },
     // Spend this amount, in minor units.
     Spend { amount: u32 },
-    // No request that is known.
-    Unknown,
 }
 
 // The amount that decimal text spells.
@@ -32,17 +31,14 @@ fn read_amount(digits: &[u8]) -> Option<u32>
     Some(amount)
 }
 
-// The request of a line, which comes without its newline.
-pub fn read_request(line: &[u8]) -> Request<'_>
+// The request of a line, which comes without its newline; none that is known where it is no request.
+pub fn read_request(line: &[u8]) -> Option<Request<'_>>
     ensures { plain result ≡ request_of line.now }
 {
     match line {
-        [b'E', b' ', text @ ..] => Request::Enter { text },
-        [b'U', b' ', digits @ ..] => match read_amount(digits) {
-            Some(amount) => Request::Spend { amount },
-            None => Request::Unknown,
-        },
-        _ => Request::Unknown,
+        [b'E', b' ', text @ ..] => Some(Request::Enter { text }),
+        [b'U', b' ', digits @ ..] => read_amount(digits).map(|amount| Request::Spend { amount }),
+        _ => None,
     }
 }
 

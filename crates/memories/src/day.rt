@@ -30,16 +30,10 @@ pub(crate) fn reply<S: Store>(
     line: &[u8],
     heap: Global,
 ) -> Result<String, AllocError> {
-    let answer = match read_request(line) {
-        Request::Enter { text } => match meter.enter(text) {
-            Ok(taken) => Answer::Taken(taken),
-            Err(refusal) => Answer::Refused(refusal),
-        },
-        Request::Spend { amount } => match meter.spend(amount) {
-            Ok(spent) => Answer::Spent(spent),
-            Err(refusal) => Answer::Refused(refusal),
-        },
-        Request::Unknown => return String::from_str(heap, "?"),
+    let answer: Answer = match read_request(line) {
+        Some(Request::Enter { text }) => meter.enter(text).into(),
+        Some(Request::Spend { amount }) => meter.spend(amount).into(),
+        None => return String::from_str(heap, "?"),
     };
     answer_line(heap, answer, meter.credit())
 }

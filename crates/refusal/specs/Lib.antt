@@ -1,3 +1,4 @@
 pub mod Numbers
+pub mod Words
 pub mod Checks
 pub mod Making

@@ -1,8 +1,12 @@
 // The closed list of refusals: why a call was not performed.
 #![tactic(auto)]
 
-ghost use Rattle.std.specs.Prelude.{◌≡◌};
+ghost use Rattle.std.specs.Prelude.{◌≡◌, Some};
 ghost use Rattle.refusal.specs.Numbers.{number_of};
+ghost use Rattle.refusal.specs.Words.{words_of};
+
+use std::error::Error;
+use std::fmt;
 
 // One case for each reason. Callers show the guest or the clerk its number.
 #[derive(Clone, Copy, PartialEq, Eq, Debug)]
@@ -84,3 +88,37 @@ impl Refusal {
         }
     }
 }
+
+// Why the call was not performed, in a few words.
+impl fmt::Display for Refusal {
+    ghost output = { λ refusal. Some (words_of refusal) };
+
+    fn fmt<W: fmt::Write>(&self, f: &mut fmt::Formatter<W>) -> fmt::Result {
+        f.write_str(match self {
+            Refusal::Length => "not 20, 40, 60 or 80 digits",
+            Refusal::NotADigit => "a byte is no digit",
+            Refusal::CheckDigit => "a check digit is wrong",
+            Refusal::NoBlock => "a number has no block",
+            Refusal::OtherSubClass => "no such SubClass",
+            Refusal::WrongBlocks => "blocks that make no slip",
+            Refusal::IndexFull => "the meter's index is at its end",
+            Refusal::OutsideWindow => "no such number in the window",
+            Refusal::WrongTag => "the tag is wrong",
+            Refusal::AlreadyCounted => "the number was counted before",
+            Refusal::ReservedConfig => "a reserved multiplier",
+            Refusal::RatePrices => "a rule of rate prices is broken",
+            Refusal::AboveCeiling => "the credit would pass the ceiling",
+            Refusal::NoWrites => "no writes are left",
+            Refusal::SpendAmount => "no amount to be spent",
+            Refusal::SpendAboveCredit => "more than the credit",
+            Refusal::Settings => "settings outside their limits",
+            Refusal::Sale => "a sale that no slip can carry",
+            Refusal::TillIndexFull => "the till's index is at its end",
+            Refusal::NoMoreNumbers => "every number was drawn",
+            Refusal::ShortMemory => "too little memory",
+            Refusal::WriteBehindLength => "a length outside its limits",
+        })
+    }
+}
+
+impl Error for Refusal {}

@@ -37,11 +37,11 @@ fn call_of(line: &[u8], heap: Global) -> Result<Option<Call>, AllocError>
     ensures { IfOk result (λ call. asked_by call ≡ request_of line.now) }
 {
     match read_request(line) {
-        Request::Enter { text } => Ok(Some(Call::Enter(Entry {
+        Some(Request::Enter { text }) => Ok(Some(Call::Enter(Entry {
             text: text.to_vec(heap)?,
         }))),
-        Request::Spend { amount } => Ok(Some(Call::Spend(Usage { amount }))),
-        Request::Unknown => Ok(None),
+        Some(Request::Spend { amount }) => Ok(Some(Call::Spend(Usage { amount }))),
+        None => Ok(None),
     }
 }
 
