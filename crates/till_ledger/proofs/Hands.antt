@@ -1,19 +1,32 @@
--- How often a number is in hand, as the hand changes: held_more, gains_removed, gains_push, back_again; in_hand,
+-- How often a number is in hand, as the hand changes: not_held, missing, named, gains_removed, gains_push, back_again; in_hand,
 -- not_in_hand.
-use Rattle.std.proofs.Common.{◌≡◌, ℕ, suc, ◌+◌, ◌<◌, true, false, eqb, ltb, List, [], ◌∷◌, ◌++◌, length, get_or, take, drop, sum_by, sym, ap, ◌∙◌, add-one, arith}
-use Rattle.std.specs.List.{remove}
-use Rattle.std.proofs.lemmas.Bool.{ne_eqb, lt-ltb}
+use Rattle.std.proofs.Common.{◌≡◌, ℕ, suc, ◌+◌, ◌<◌, ◌≤◌, true, false, eqb, ltb, cond, List, [], ◌∷◌, ◌++◌, length, get_or, take, drop, Some, None, Option, sum_by, sym, refl, ap, ◌∙◌, add-one, arith}
+use Rattle.std.specs.List.{remove, position, position_or_len}
+use Rattle.std.proofs.lemmas.Bool.{eqb-true, lt-ltb}
+use Rattle.std.proofs.lemmas.List.Quantifiers.{position-Some}
 use Rattle.std.proofs.lemmas.Bool.Decides.{nat_tests}
-use Rattle.std.proofs.lemmas.List.Sums.{count_by_more_no, sum_by-append, sum_by_push, sum_by-take-drop, sum_by-drop_more}
+use Rattle.std.proofs.lemmas.List.Sums.{sum_by-append, sum_by_push, sum_by-take-drop, sum_by-drop_more}
 use Rattle.std.proofs.lemmas.List.Edits.{length-remove}
 use Rattle.std.proofs.lemmas.List.{length_push}
 use Rattle.till.specs.declared.drawn.DrawnNumber.{DrawnNumber}
 use Rattle.journal.specs.Hands.{one, held, is_in_hand, Gains, SameHand}
 
--- a number that is not among the first, and is not the next one
-pub held_more : (ds : List DrawnNumber) (i n : ℕ) (d : DrawnNumber) → i < length ds → d ≡ get_or ds i d → (d.number ≡ n → ⊥) → held n (take i ds) ≡ 0 → held n (take (i + 1) ds) ≡ 0
-held_more ds i n d lt read ne before =
-    count_by_more_no (λ x. eqb n x.number) ds i d lt (ne_eqb n (get_or ds i d).number (λ e. ne (ap (λ x. x.number) read ∙ sym e))) ∙ before
+at_end : (long place : ℕ) → cond (ltb place long) (Some place) None ≡ None → long ≤ place
+at_end long place e = grind (arith, nat_tests, e)
+
+-- a number at which no place is found is not there
+pub not_held : (ds : List DrawnNumber) (n : ℕ) → length ds ≤ position_or_len (λ d. eqb d.number n) ds → held n ds ≡ 0
+not_held [] n h = refl
+not_held (d ∷ ds) n h = grind (arith, nat_tests, not_held ds n)
+
+-- a place that is none, and a place of a number
+pub missing : (ds : List DrawnNumber) (n : ℕ) → None ≡ position (λ d. eqb d.number n) ds → held n ds ≡ 0
+missing ds n e = not_held ds n (at_end (length ds) (position_or_len (λ d. eqb d.number n) ds) (sym e))
+
+pub named : (ds : List DrawnNumber) (n i : ℕ) (d : DrawnNumber) → Some i ≡ position (λ d. eqb d.number n) ds → (i < length ds) × ((get_or ds i d).number ≡ n)
+named ds n i d e =
+    let at = position-Some (λ d. eqb d.number n) ds i d (sym e) in
+    (at.0, eqb-true _ _ at.1)
 
 -- any sum over a list, with one element taken out
 sum_by_removed : {X : Type 0} (f : X → ℕ) (xs : List X) (i : ℕ) (d : X) → i < length xs → sum_by f xs ≡ sum_by f (remove xs i) + f (get_or xs i d)
