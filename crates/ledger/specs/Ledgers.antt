@@ -27,4 +27,4 @@ NewMeterKeeps s opening writes lines closing left = NewRecord opening → Law s 
 
 -- a ledger keeps the law from what it was opened with up to the record and the writes left that its store means now
 abbrev pub Lawful : {S C A : Type 0} → Suite → Ledger S C A → Record → ℕ → Type 0
-Lawful s l closing left = NewMeterKeeps s l.opening l.opening_writes (journal_of l) closing left
+Lawful s l closing left = NewMeterKeeps s l.opening.kept l.opening.writes (journal_of l) closing left

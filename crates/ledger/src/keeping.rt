@@ -5,7 +5,7 @@ ghost use Rattle.ledger.specs.Steps.{Performed};
 ghost use Rattle.ledger.specs.Ledgers.{journal_of, line_of, Lawful};
 
 use crate::calls::{Call, Line};
-use crate::ledger::Ledger;
+use crate::ledger::{Ledger, Opening};
 use crate::steps::perform_at;
 use authenticator::Authenticator;
 use cipher::Cipher;
@@ -18,18 +18,17 @@ impl<S: Store, C: Cipher, A: Authenticator> Ledger<S, C, A> {
     // A ledger in which nothing is noted yet. It keeps the law.
     pub fn open(meter: Meter<S, C, A>, heap: Global) -> Ledger<S, C, A>
         ensures meter { result.meter ≡ meter }
-        ensures opening { result.opening ≡ S.kept meter.parts.store }
-        ensures writes { result.opening_writes ≡ S.writes meter.parts.store }
+        ensures opening { result.opening.kept ≡ S.kept meter.parts.store }
+        ensures writes { result.opening.writes ≡ S.writes meter.parts.store }
         ensures journal { journal_of result ≡ [] }
         ensures lawful { Lawful (suite_at C.enciphered C.deciphered A.tagged result.meter) result (S.kept result.meter.parts.store) (S.writes result.meter.parts.store) }
     {
         let mut meter = meter;
-        let opening = meter.read();
-        let opening_writes = meter.writes_left();
+        let kept = meter.read();
+        let writes = meter.writes_left();
         Ledger {
             meter,
-            opening,
-            opening_writes,
+            opening: Opening { kept, writes },
             lines: Vec::new(heap),
         }
     }
@@ -40,7 +39,7 @@ impl<S: Store, C: Cipher, A: Authenticator> Ledger<S, C, A> {
         ensures did { Performed (suite_at C.enciphered C.deciphered A.tagged self.old.meter) call result (S.kept self.old.meter.parts.store) (S.writes self.old.meter.parts.store) (S.kept self.new.meter.parts.store) (S.writes self.new.meter.parts.store) }
         ensures noted { journal_of self.new ≡ journal_of self.old ++ line_of call result (S.writes self.new.meter.parts.store) ∷ [] }
         ensures same { self.new.meter ≡ with_store self.old.meter self.new.meter.parts.store }
-        ensures opening { (self.new.opening ≡ self.old.opening) × (self.new.opening_writes ≡ self.old.opening_writes) }
+        ensures opening { self.new.opening ≡ self.old.opening }
         ensures lawful { Lawful (suite_at C.enciphered C.deciphered A.tagged self.old.meter) self.old (S.kept self.old.meter.parts.store) (S.writes self.old.meter.parts.store) → Lawful (suite_at C.enciphered C.deciphered A.tagged self.new.meter) self.new (S.kept self.new.meter.parts.store) (S.writes self.new.meter.parts.store) }
         ensures capacity { vec_capacity self.new.lines ≡ vec_capacity self.old.lines }
     {
@@ -61,7 +60,7 @@ impl<S: Store, C: Cipher, A: Authenticator> Ledger<S, C, A> {
         ensures noted { MatchResult result (λ answer. journal_of self.new ≡ journal_of self.old ++ line_of call answer (S.writes self.new.meter.parts.store) ∷ []) (λ _. (journal_of self.new ≡ journal_of self.old) × (self.new.meter ≡ self.old.meter)) }
         ensures memory { OnErr result (vec_capacity self.old.lines ≡ vec_len self.old.lines) }
         ensures same { self.new.meter ≡ with_store self.old.meter self.new.meter.parts.store }
-        ensures opening { (self.new.opening ≡ self.old.opening) × (self.new.opening_writes ≡ self.old.opening_writes) }
+        ensures opening { self.new.opening ≡ self.old.opening }
         ensures lawful { Lawful (suite_at C.enciphered C.deciphered A.tagged self.old.meter) self.old (S.kept self.old.meter.parts.store) (S.writes self.old.meter.parts.store) → Lawful (suite_at C.enciphered C.deciphered A.tagged self.new.meter) self.new (S.kept self.new.meter.parts.store) (S.writes self.new.meter.parts.store) }
     {
         self.lines.reserve(1)?;
@@ -90,7 +89,6 @@ impl<S: Store, C: Cipher, A: Authenticator> Ledger<S, C, A> {
         let Ledger {
             meter,
             opening: _,
-            opening_writes: _,
             lines: _,
         } = self;
         meter

@@ -22,7 +22,8 @@ pub fn run<S: Store, C: Cipher, A: Authenticator>(
     ensures calls { MatchResult result (λ l. calls_of (journal_of l) ≡ calls.items) (λ m. m ≡ meter) }
     ensures same { MatchResult result (λ l. l.meter ≡ with_store meter l.meter.parts.store) (λ m. m ≡ meter) }
     ensures performed { MatchResult result (λ l. AllPerformed (suite_at C.enciphered C.deciphered A.tagged meter) (S.kept meter.parts.store) (S.writes meter.parts.store) (journal_of l) (S.kept l.meter.parts.store) (S.writes l.meter.parts.store)) (λ m. m ≡ meter) }
-    ensures opening { MatchResult result (λ l. (l.opening ≡ S.kept meter.parts.store) × (l.opening_writes ≡ S.writes meter.parts.store)) (λ m. m ≡ meter) }
+    ensures opening { MatchResult result (λ l. l.opening.kept ≡ S.kept meter.parts.store) (λ m. m ≡ meter) }
+    ensures writes { MatchResult result (λ l. l.opening.writes ≡ S.writes meter.parts.store) (λ m. m ≡ meter) }
     ensures memory { OnErr result (0 < vec_len calls) }
     ensures law { MatchResult result (λ l. NewMeterKeeps (suite_at C.enciphered C.deciphered A.tagged meter) (S.kept meter.parts.store) (S.writes meter.parts.store) (journal_of l) (S.kept l.meter.parts.store) (S.writes l.meter.parts.store)) (λ m. m ≡ meter) }
 {

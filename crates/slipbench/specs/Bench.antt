@@ -31,8 +31,8 @@ BenchLedger = Ledger PlainStore Clear ByteSum
 -- writes left that its store means now
 pub record Kept (l : BenchLedger) : Type 0 where
   pub settings : l.meter.parts.sealer.settings ≡ bench_settings
-  pub opening : l.opening ≡ blank 0
-  pub writes : l.opening_writes ≡ 4294967295
+  pub opening : l.opening.kept ≡ blank 0
+  pub writes : l.opening.writes ≡ 4294967295
   pub lawful : Lawful (suite_at as_is as_is byte_sum l.meter) l (plain_kept l.meter.parts.store) (plain_writes l.meter.parts.store)
 
 -- one line was noted, of a call that asks this, and the reply is the text of its answer

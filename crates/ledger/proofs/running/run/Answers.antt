@@ -26,9 +26,8 @@ loop-call-init g c =
       omega (arith, room, c.len.ensures, c.into_iter-call-iterator.ensures.into_iter_gives.1),
       refl,
       refl,
-      refl,
       λ new.
-          subst (λ ls. Law (agreed g m) opened.opening.credit opened.opening_writes ls (g.S.Store.kept m.parts.store) (g.S.Store.writes m.parts.store))
+          subst (λ ls. Law (agreed g m) opened.opening.kept.credit opened.opening.writes ls (g.S.Store.kept m.parts.store) (g.S.Store.writes m.parts.store))
           (sym items) (c.open-ledger.ensures.lawful new),
       subst (λ ls. AllPerformed (agreed g m) (g.S.Store.kept m.parts.store) (g.S.Store.writes m.parts.store) ls (g.S.Store.kept m.parts.store) (g.S.Store.writes m.parts.store))
           (sym (items ∙ c.open-ledger.ensures.journal)) (refl, refl),
@@ -50,12 +49,11 @@ loop-call-preserved g c =
       calls_more (journal_of old) (journal_of new) c.in-Some.call c.note.result _ _ _ _ noted steps.0 inv.2,
       omega (arith, inv.3, steps.1, more, new.lines.ok.0, old.lines.ok.0, c.note.ensures.capacity),
       c.note.ensures.same ∙ ap (λ n. with_store n new.meter.parts.store) inv.4,
-      c.note.ensures.opening.0 ∙ inv.5,
-      c.note.ensures.opening.1 ∙ inv.6,
-      c.note.ensures.lawful inv.7,
+      c.note.ensures.opening ∙ inv.5,
+      c.note.ensures.lawful inv.6,
       subst (λ ls. AllPerformed (agreed g m) (kept m.parts.store) (writes m.parts.store) ls (kept new.meter.parts.store) (writes new.meter.parts.store))
           (sym noted)
-          (performed_more (agreed g m) (kept m.parts.store) (writes m.parts.store) (journal_of old) (kept old.meter.parts.store) (writes old.meter.parts.store) c.in-Some.call c.note.result (kept new.meter.parts.store) (writes new.meter.parts.store) inv.8
+          (performed_more (agreed g m) (kept m.parts.store) (writes m.parts.store) (journal_of old) (kept old.meter.parts.store) (writes old.meter.parts.store) c.in-Some.call c.note.result (kept new.meter.parts.store) (writes new.meter.parts.store) inv.7
           (subst (λ s. Performed s c.in-Some.call c.note.result (kept old.meter.parts.store) (writes old.meter.parts.store) (kept new.meter.parts.store) (writes new.meter.parts.store)) (ap (agreed g) inv.4) c.note.ensures.did)),
     )
 
@@ -72,17 +70,18 @@ returns g c =
     calls_all (journal_of last) (into_iter_items it) _ (omega (arith, it.rest.ok.0, c.in-None.ensures.steps.0)) inv.2 in
     let only : last.meter ≡ with_store c.args.meter last.meter.parts.store =
     inv.4 ∙ ap (λ n. with_store n last.meter.parts.store) meter in
-    let opening : last.opening ≡ kept c.args.meter.parts.store = inv.5 ∙ opened.opening in
-    let at_first : last.opening_writes ≡ writes c.args.meter.parts.store = inv.6 ∙ opened.writes in
+    let opening : last.opening.kept ≡ kept c.args.meter.parts.store = ap (λ o. o.kept) inv.5 ∙ opened.opening in
+    let at_first : last.opening.writes ≡ writes c.args.meter.parts.store = ap (λ o. o.writes) inv.5 ∙ opened.writes in
     record {
       calls = all ∙ c.into_iter-call-iterator.ensures.into_iter_gives.0;
       same = only;
       memory = tt;
       performed =
-          subst (λ n. AllPerformed (agreed g n) (kept n.parts.store) (writes n.parts.store) (journal_of last) (kept last.meter.parts.store) (writes last.meter.parts.store)) meter inv.8;
-      opening = (opening, at_first);
+          subst (λ n. AllPerformed (agreed g n) (kept n.parts.store) (writes n.parts.store) (journal_of last) (kept last.meter.parts.store) (writes last.meter.parts.store)) meter inv.7;
+      opening = opening;
+      writes = at_first;
       law =
           subst (λ r. NewMeterKeeps (agreed g c.args.meter) r (writes c.args.meter.parts.store) (journal_of last) (kept last.meter.parts.store) (writes last.meter.parts.store)) opening
-          (subst (λ w. NewMeterKeeps (agreed g c.args.meter) last.opening w (journal_of last) (kept last.meter.parts.store) (writes last.meter.parts.store)) at_first
-          (subst (λ s. NewMeterKeeps s last.opening last.opening_writes (journal_of last) (kept last.meter.parts.store) (writes last.meter.parts.store)) (ap (agreed g) only) inv.7));
+          (subst (λ w. NewMeterKeeps (agreed g c.args.meter) last.opening.kept w (journal_of last) (kept last.meter.parts.store) (writes last.meter.parts.store)) at_first
+          (subst (λ s. NewMeterKeeps s last.opening.kept last.opening.writes (journal_of last) (kept last.meter.parts.store) (writes last.meter.parts.store)) (ap (agreed g) only) inv.6));
     }

@@ -13,6 +13,5 @@ invariant-loop-call g l =
     (vec_len l.ledger.lines + into_iter_len l.call-iterator ≤ vec_capacity l.ledger.lines) ×
     (l.ledger.meter ≡ with_store l.initial.ledger.meter l.ledger.meter.parts.store) ×
     (l.ledger.opening ≡ l.initial.ledger.opening) ×
-    (l.ledger.opening_writes ≡ l.initial.ledger.opening_writes) ×
     Lawful (suite_at g.C.Cipher.enciphered g.C.Cipher.deciphered g.A.Authenticator.tagged l.ledger.meter) l.ledger (g.S.Store.kept l.ledger.meter.parts.store) (g.S.Store.writes l.ledger.meter.parts.store) ×
     AllPerformed (suite_at g.C.Cipher.enciphered g.C.Cipher.deciphered g.A.Authenticator.tagged l.initial.ledger.meter) (g.S.Store.kept l.initial.ledger.meter.parts.store) (g.S.Store.writes l.initial.ledger.meter.parts.store) (journal_of l.ledger) (g.S.Store.kept l.ledger.meter.parts.store) (g.S.Store.writes l.ledger.meter.parts.store)

@@ -32,7 +32,7 @@ returns g c =
       did = did;
       noted = noted;
       same = only;
-      opening = (refl, refl);
+      opening = refl;
       capacity = c.push_reserved.ensures.capacity;
       lawful = λ before new.
           continued (agreed g m) (agreed g last) _ _ (vec_items c.args.self.now.lines) _ (kept m.parts.store) (writes m.parts.store) c.args.call x _ (writes last.parts.store)
