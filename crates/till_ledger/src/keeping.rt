@@ -58,7 +58,8 @@ impl<S: Store, C: Cipher, A: Authenticator> Ledger<S, C, A> {
         ensures till { self.new.till ≡ with_desk self.old.till self.new.till.index self.new.till.counts }
         ensures opening { self.new.opening ≡ self.old.opening }
         ensures lawful { Lawful S.kept S.writes C.enciphered C.deciphered A.tagged self.old → Lawful S.kept S.writes C.enciphered C.deciphered A.tagged self.new }
-        ensures capacity { (vec_capacity self.new.lines ≡ vec_capacity self.old.lines) × (vec_capacity self.new.hand ≡ vec_capacity self.old.hand) }
+        ensures capacity { vec_capacity self.new.lines ≡ vec_capacity self.old.lines }
+        ensures hand_capacity { vec_capacity self.new.hand ≡ vec_capacity self.old.hand }
     {
         let answer = perform_at(&mut self.till, &mut self.hand, &mut self.meter, &call);
         let writes = self.meter.writes_left();

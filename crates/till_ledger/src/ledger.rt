@@ -15,7 +15,8 @@ pub struct Opening {
     pub(crate) index: u16,
 }
 
-// It cannot be let go while numbers may be in hand: `close` takes it apart.
+// It cannot be let go while numbers may be in hand: `close` takes it apart. That it keeps the law is a clause of its methods, and it is no
+// twin of the ledger of a meter alone, for the reasons that stand there.
 pub struct Ledger<S, C, A> {
     pub(crate) till: Till<C, A>,
     pub(crate) meter: Meter<S, C, A>,

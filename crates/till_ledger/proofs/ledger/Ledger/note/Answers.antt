@@ -42,7 +42,8 @@ returns g c =
       meter = only;
       till = DidAt.till;
       opening = refl;
-      capacity = (c.push_reserved.ensures.capacity, DidAt.capacity);
+      capacity = c.push_reserved.ensures.capacity;
+      hand_capacity = DidAt.capacity;
       lawful = λ before.
           continued (of_till old.till) (of_till till) (of_meter m) (of_meter last) (keeps g m.parts.sealer) _
           (vec_items old.lines) (vec_items c.push_reserved.new.self) _ (world_of kept writes till hand last) c.args.call x
