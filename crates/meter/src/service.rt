@@ -53,6 +53,7 @@ impl<S, C, A> Meter<S, C, A> {
 
 impl<S: Store, C: Cipher, A: Authenticator> Meter<S, C, A> {
     // Takes the digits of a slip, or refuses them and stays as it was.
+    #[tactic(auto, using(crate::proofs::Ways::refused_at, crate::proofs::Ways::unwritable, crate::proofs::Ways::taken_at, crate::proofs::Ways::done, crate::proofs::Ways::undone))]
     pub fn enter(&mut self, text: &[u8]) -> Result<Taken, Refusal>
         ensures answer { result ≡ taking (judged (suite_at C.enciphered C.deciphered A.tagged self.old) (S.kept self.old.parts.store) (S.writes self.old.parts.store) text.now) }
         ensures after { self.new ≡ with_store self.old (entry_obeyed S.after (judged (suite_at C.enciphered C.deciphered A.tagged self.old) (S.kept self.old.parts.store) (S.writes self.old.parts.store) text.now) self.old.parts.store) }
