@@ -1,4 +1,4 @@
-use Rattle.std.proofs.Common.{◌≡◌, [], ◌∷◌, ◌++◌, vec_items, sym, refl, ap, ◌∙◌, subst}
+use Rattle.std.proofs.Common.{◌≡◌, [], ◌∷◌, ◌++◌, vec_items, sym, ap, ◌∙◌, subst}
 use Rattle.sealing.specs.Suites.{Sound, suite_of}
 use Rattle.sealing.specs.declared.sealer.Sealer.{Sealer}
 use Rattle.sealing.proofs.Soundness.{sound_of}
@@ -13,8 +13,8 @@ use Rattle.till_ledger.proofs.ledger.Ledger.note.Goals as goal
 abbrev keeps : (g : given.Over) (s : Sealer g.row.C.Denot g.row.A.Denot) → Sound (suite_of g.C.Cipher.enciphered g.C.Cipher.deciphered g.A.Authenticator.tagged s)
 keeps g s = sound_of g.C.Cipher.enciphered g.C.Cipher.deciphered g.A.Authenticator.tagged g.met.C.Cipher.below g.met.C.Cipher.undone g.met.A.Authenticator.sixteen g.met.A.Authenticator.bytes s
 
-pub returns : goal.returns
-returns g c =
+pub returns-clause-lawful : goal.returns-clause-lawful
+returns-clause-lawful g c =
     let old = c.args.self.now in
     let m = old.meter in
     let DidAt = c.perform_at-answer.ensures in
@@ -36,16 +36,7 @@ returns g c =
     c.push_reserved.ensures.items ∙ (λ i. vec_items old.lines ++ line_of c.args.call x (left i) ∷ []) in
     let did : Performed (of_till old.till) (of_meter m) c.args.call x (world_of kept writes old.till (vec_items old.hand) m) (world_of kept writes till hand last) =
     subst (λ n. Performed (of_till old.till) (of_meter m) c.args.call x (world_of kept writes old.till (vec_items old.hand) m) (world_of kept writes till hand n)) (sym asked) DidAt.did in
-    record {
-      did = did;
-      noted = noted;
-      meter = only;
-      till = DidAt.till;
-      opening = refl;
-      capacity = c.push_reserved.ensures.capacity;
-      hand_capacity = DidAt.capacity;
-      lawful = λ before.
-          continued (of_till old.till) (of_till till) (of_meter m) (of_meter last) (keeps g m.parts.sealer) _
-          (vec_items old.lines) (vec_items c.push_reserved.new.self) _ (world_of kept writes till hand last) c.args.call x
-          (ap of_till DidAt.till) (ap of_meter only) noted did before;
-    }
+    λ before.
+    continued (of_till old.till) (of_till till) (of_meter m) (of_meter last) (keeps g m.parts.sealer) _
+    (vec_items old.lines) (vec_items c.push_reserved.new.self) _ (world_of kept writes till hand last) c.args.call x
+    (ap of_till DidAt.till) (ap of_meter only) noted did before

@@ -1,4 +1,4 @@
-use Rattle.std.proofs.Common.{◌≡◌, [], sym, refl, ap, ◌∙◌}
+use Rattle.std.proofs.Common.{◌≡◌, [], sym, ap, ◌∙◌}
 use Rattle.sealing.specs.Suites.{Sound, suite_of}
 use Rattle.sealing.specs.declared.sealer.Sealer.{Sealer}
 use Rattle.sealing.proofs.Soundness.{sound_of}
@@ -13,8 +13,8 @@ use Rattle.till_ledger.proofs.ledger.Ledger.open.Goals as goal
 abbrev keeps : (g : given.Over) (s : Sealer g.row.C.Denot g.row.A.Denot) → Sound (suite_of g.C.Cipher.enciphered g.C.Cipher.deciphered g.A.Authenticator.tagged s)
 keeps g s = sound_of g.C.Cipher.enciphered g.C.Cipher.deciphered g.A.Authenticator.tagged g.met.C.Cipher.below g.met.C.Cipher.undone g.met.A.Authenticator.sixteen g.met.A.Authenticator.bytes s
 
-pub returns : goal.returns
-returns g c =
+pub returns-clause-lawful : goal.returns-clause-lawful
+returns-clause-lawful g c =
     let m = c.args.meter in
     let last = c.writes_left-writes.new.self in
     let till = c.args.till in
@@ -31,11 +31,4 @@ returns g c =
     λ i. record { kept = had i; writes = left i; counts = c.counts.ensures i; index = c.index.ensures i; hand = [] } in
     let at_last : world_of kept writes till [] m ≡ world_of kept writes till c.new.result.items last =
     λ i. world_of kept writes till (sym c.new.ensures.items i) (sym same i) in
-    record {
-      till = refl;
-      meter = same;
-      hand = c.new.ensures.items;
-      start = is;
-      journal = c.new-2.ensures.items;
-      lawful = opened t (agreed last) (keeps g last.parts.sealer) start _ _ c.new-2.ensures.items (sym at_last ∙ sym is);
-    }
+    opened t (agreed last) (keeps g last.parts.sealer) start _ _ c.new-2.ensures.items (sym at_last ∙ sym is)
