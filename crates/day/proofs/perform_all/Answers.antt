@@ -18,10 +18,7 @@ loop-deed-preserved c = (
   λ end rest. c.loop-deed.invariant.1 end (noted_more c.args.deeds.now c.loop-deed.deed-index _ (journal_of c.loop-deed.ledger) (journal_of c.perform.new.ledger) end c.loop-deed-test.true c.in_ok-perform.ensures.noted rest),
 )
 
-pub returns : goal.returns
-returns c =
+pub returns-clause-noted : goal.returns-clause-noted
+returns-clause-noted c =
     let lines = journal_of c.loop-deed.ledger in
-    record {
-      noted = c.loop-deed.invariant.1 lines (subst (λ (ds : List Deed). AllNoted ds lines lines) (sym (drop_all c.loop-deed.deed-index c.args.deeds.now c.loop-deed-test.false)) refl);
-      kept = c.loop-deed.invariant.0;
-    }
+    c.loop-deed.invariant.1 lines (subst (λ (ds : List Deed). AllNoted ds lines lines) (sym (drop_all c.loop-deed.deed-index c.args.deeds.now c.loop-deed-test.false)) refl)

@@ -6,8 +6,8 @@ use Rattle.day.specs.Days.{DayLedger}
 use Rattle.day.proofs.Agreement.{kept_agrees}
 use Rattle.day.proofs.sum_up.Goals as goal
 
-pub returns : goal.returns
-returns c =
+pub returns-clause-agrees : goal.returns-clause-agrees
+returns-clause-agrees c =
     let l = c.args.ledger.now in
     let same : c.credit-credit.new.self ≡ l = c.credit-credit.ensures.same in
     let credit : c.credit-credit.result ≡ (plain_kept l.meter.parts.store).credit = c.credit-credit.ensures.value in
@@ -18,15 +18,4 @@ returns c =
     ap length (c.hand-in_hand.ensures ∙ ap (λ (d : DayLedger). vec_items d.hand) same) in
     let agrees : c.agree-agrees.result ≡ agreeing c.args.opened (plain_kept l.meter.parts.store).credit l.till.counts (length (vec_items l.hand)) (balance_of (journal_of l)) =
     c.agree-agrees.ensures ∙ (λ i. agreeing c.args.opened (credit i) (counts i) (held i) (sums i)) in
-    record {
-      value = λ i. record {
-        opened = c.args.opened;
-        credit = credit i;
-        balance = sums i;
-        counts = counts i;
-        in_hand = held i;
-        agrees = agrees i;
-      };
-      agrees = λ kept none. agrees ∙ kept_agrees l c.args.opened kept none;
-      same = same;
-    }
+    λ kept none. agrees ∙ kept_agrees l c.args.opened kept none
