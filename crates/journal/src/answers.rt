@@ -55,7 +55,8 @@ impl From<Result<Spent, Refusal>> for Answer {
 }
 
 impl Answer {
-    // 0 where the call was performed, the number of the refusal where it was refused, and none where the till was not asked.
+    // 0 where the call was performed, the number of the refusal where it was refused, and none where the till was not asked: the number
+    // that is listed for an answer, beside its case and not in place of it.
     pub fn number(self) -> Option<u8>
         ensures { result ≡ (told self).number }
     {

@@ -50,7 +50,8 @@ impl From<Result<Spent, Refusal>> for Answer {
 }
 
 impl Answer {
-    // 0 where the call was performed, else the number of the refusal.
+    // 0 where the call was performed, else the number of the refusal: the number that is listed for an answer, beside its case and not in
+    // place of it.
     pub fn number(self) -> u8
         ensures { result ≡ (told self).number }
     {

@@ -58,7 +58,7 @@ pub enum Refusal {
 }
 
 impl Refusal {
-    // The number under which the refusal is listed.
+    // The number under which the refusal is listed. Every refusal is told by it, so it is asked for by name and no conversion.
     pub fn number(self) -> u8
         ensures { result ≡ number_of self }
     {

@@ -22,7 +22,8 @@ fn is_some_open(multipliers: &[u16; 4]) -> bool
 }
 
 impl Settings {
-    // Refuses a value outside its limits, and four reserved multipliers.
+    // Refuses a value outside its limits, and four reserved multipliers. It is named as what makes settings, and no `TryFrom`, where a
+    // caller would have to look up what is tried.
     pub fn new(values: SettingValues) -> Result<Settings, Refusal>
         ensures { result ≡ settings_of values }
     {

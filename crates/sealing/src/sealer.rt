@@ -13,7 +13,8 @@ pub struct Sealer<C, A> {
     pub authenticator: A,
 }
 
-// A key lets the old cipher or authenticator go, so these are of types that may be let go.
+// A key lets the old cipher or authenticator go, so these are of types that may be let go. A cipher is keyed apart from an
+// authenticator, and by another trait, so there are two methods.
 impl<C: Cipher + Drop, A: Authenticator + Drop> Sealer<C, A> {
     // Replaces the cipher by the one of its kind for the key and this MeterID.
     pub fn take_cipher_key(&mut self, key: &[u8; 16])
