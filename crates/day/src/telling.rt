@@ -40,11 +40,12 @@ fn write_call<W: fmt::Write>(call: &Call, f: &mut fmt::Formatter<W>) -> fmt::Res
 
 // The digits of a slip in groups of four, each with a blank before it.
 fn write_groups<W: fmt::Write>(slip: &Issued, f: &mut fmt::Formatter<W>) -> fmt::Result {
-    for (i, byte) in slip.slip.iter().take(slip.length).enumerate() {
-        if i % 4 == 0 {
-            f.write_char(' ')?;
+    let digits = &slip.slip[..slip.length.min(slip.slip.len())];
+    for group in digits.chunks(4) {
+        f.write_char(' ')?;
+        for digit in group {
+            f.write_char(char::from(*digit))?;
         }
-        f.write_char(char::from(*byte))?;
     }
     Ok(())
 }
