@@ -1,6 +1,6 @@
 -- A sum over the lines so far: SoFar.
 use Rattle.std.proofs.Common.{◌≡◌, ℕ, ◌*◌, ◌≤◌, List, take}
-use Rattle.journal.specs.Lines.{total}
+use Rattle.meter.specs.Journals.{total}
 use Rattle.journal.specs.Noted.{Line}
 
 -- x is the sum over the first i lines, and each of them added at most 32 bits

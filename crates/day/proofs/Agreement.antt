@@ -11,7 +11,8 @@ use Rattle.entry.specs.Rules.{Standing}
 use Rattle.store.specs.Plain.{plain_kept, plain_writes}
 use Rattle.meter.specs.Meters.{suite_at}
 use Rattle.journal.specs.Telling.{Told}
-use Rattle.journal.specs.Lines.{effect, effect_of, total, text_of, amount_named, AtEach}
+use Rattle.meter.specs.Journals.{total, AtEach}
+use Rattle.journal.specs.Lines.{effect, effect_of, text_of, amount_named}
 use Rattle.journal.specs.Standings.{Desk}
 use Rattle.journal.specs.Law.{RightBy, Law}
 use Rattle.journal.specs.declared.answers.Answer.{Answer}

@@ -2,7 +2,8 @@
 -- those of a balance.
 use Rattle.std.specs.Prelude.{ℕ, ◌+◌, ◌^◌, ◌<◌, Bool, ◌&&◌, List, ◌==◌}
 use Rattle.till.specs.declared.counts.Counts.{Counts}
-use Rattle.journal.specs.Lines.{deal, total, how_many, draws, issues, voids}
+use Rattle.meter.specs.Journals.{total}
+use Rattle.journal.specs.Lines.{deal, how_many, draws, issues, voids}
 use Rattle.journal.specs.declared.answers.Answer.{Answer}
 use Rattle.journal.specs.declared.answers.Answer.TheVariants.{Drawn, Issued, Voided, Taken, Spent, NotInHand, Refused}
 use Rattle.journal.specs.Noted.{Line}

@@ -8,7 +8,8 @@ use Rattle.till.specs.declared.counts.Counts.{Counts}
 use Rattle.till.specs.declared.drawn.DrawnNumber.{DrawnNumber}
 use Rattle.journal.specs.Noted.{Line}
 use Rattle.journal.specs.Hands.{held}
-use Rattle.journal.specs.Lines.{effect, total, times, drawn_times, issued_times, voided_times, draws, issues, voids, rates_issued, highest_in, index_in, tariff_after, writes_after, AtEach}
+use Rattle.meter.specs.Journals.{total, writes_after, AtEach}
+use Rattle.journal.specs.Lines.{effect, times, drawn_times, issued_times, voided_times, draws, issues, voids, rates_issued, highest_in, index_in, tariff_after}
 use Rattle.journal.specs.Standings.{World}
 use Rattle.journal.specs.Law.{Right, one_up_to}
 

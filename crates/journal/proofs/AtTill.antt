@@ -25,7 +25,8 @@ use Rattle.journal.specs.declared.calls.Cancellation.{Cancellation}
 use Rattle.journal.specs.Noted.{Line}
 use Rattle.journal.specs.declared.calls.Order.{Order}
 use Rattle.journal.specs.Hands.{held, one, is_in_hand, Gains, SameHand}
-use Rattle.journal.specs.Lines.{drawn_times, draws, writes_after}
+use Rattle.meter.specs.Journals.{writes_after}
+use Rattle.journal.specs.Lines.{drawn_times, draws}
 use Rattle.journal.specs.Standings.{World, Desk, desk_after}
 use Rattle.journal.specs.Law.{Right, one_up_to}
 use Rattle.journal.specs.Steps.{draw_answer, sold, issue_answer, SameDesk, Drew, Sold, Cancelled}

@@ -13,10 +13,11 @@ use Rattle.till.specs.declared.drawn.DrawnNumber.{DrawnNumber}
 use Rattle.till.specs.Counting.{no_counts}
 use Rattle.journal.specs.Noted.{Line}
 use Rattle.journal.specs.Hands.{held, SameHand}
-use Rattle.journal.specs.Lines.{Effect, nothing, effect, Deal, idle, deal, times, drawn_times, draws, one_if, how_many, or_zero, highest_in}
+use Rattle.meter.specs.Journals.{Effect, nothing, one_if, or_zero}
+use Rattle.journal.specs.Lines.{effect, Deal, idle, deal, times, drawn_times, draws, how_many, highest_in}
 use Rattle.journal.specs.Law.{one_up_to}
 use Rattle.journal.proofs.Accounts.{Account, TillAccount}
-use Rattle.journal.proofs.Pushing.{total_push, highest_push, tariff_push, writes_push}
+use Rattle.meter.proofs.Pushing.{total_push, highest_push, tariff_push, writes_push}
 
 -- what one line changes at the meter, from one record to the next
 pub record Step (s : Suite) (h : List Line) (old : Record) (x : Line) (new : Record) (left : ℕ) : Type 0 where
@@ -38,9 +39,9 @@ grow s opening writes h old had x new left a p =
       credit = omega (arith, a.credit, p.credit, plus, less);
       marks = λ n k. p.marks n k ∙ ap (ltb 0) (sym (counts n));
       once = λ n. omega (arith, p.once n, counts n);
-      highest = p.highest ∙ sym (highest_push s h x);
+      highest = p.highest ∙ sym (highest_push (effect s) h x);
       index = omega (arith, a.index, p.index, total_push (λ e. (effect s e).rates) h x);
-      tariff = p.tariff ∙ ap (tariff_with (effect s x).tariff) a.tariff ∙ sym (tariff_push s None h x);
+      tariff = p.tariff ∙ ap (tariff_with (effect s x).tariff) a.tariff ∙ sym (tariff_push (effect s) None h x);
       store = p.store ∙ sym (writes_push writes h x);
     }
 

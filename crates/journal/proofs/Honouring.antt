@@ -21,7 +21,8 @@ use Rattle.meter.specs.declared.calls.Entry.{Entry}
 use Rattle.journal.specs.Noted.{Line}
 use Rattle.journal.specs.declared.calls.Order.{Order}
 use Rattle.journal.specs.Telling.{Told}
-use Rattle.journal.specs.Lines.{rates_issued, AtEach}
+use Rattle.meter.specs.Journals.{AtEach}
+use Rattle.journal.specs.Lines.{rates_issued}
 use Rattle.journal.specs.Standings.{Desk, standing_after, desk_after}
 use Rattle.journal.specs.Law.{call_rules, held_for, EntryTaken, SlipIssued, RightBy, Right, Honoured}
 

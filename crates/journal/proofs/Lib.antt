@@ -1,5 +1,3 @@
-pub mod Splits
-pub mod Pushing
 pub mod Accounts
 pub mod Agreeing
 pub mod Growing

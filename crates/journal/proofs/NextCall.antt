@@ -14,12 +14,13 @@ use Rattle.journal.specs.declared.calls.Call.{Call}
 use Rattle.journal.specs.declared.calls.Call.TheVariants.{Draw, Issue, Void, Enter, Spend}
 use Rattle.journal.specs.Noted.{Line}
 use Rattle.journal.specs.Hands.{held, is_in_hand}
-use Rattle.journal.specs.Lines.{effect_of, effect, nothing, deal_of, deal, idle, writes_after}
+use Rattle.meter.specs.Journals.{nothing, writes_after}
+use Rattle.journal.specs.Lines.{effect_of, effect, deal_of, deal, idle}
 use Rattle.journal.specs.Standings.{World, NewWorld}
 use Rattle.journal.specs.Law.{Right}
 use Rattle.journal.specs.Steps.{entry_answer, spend_answer, draw_answer, sold, issue_answer, SameMeter, SameDesk, Performed}
 use Rattle.journal.proofs.Accounts.{Core}
-use Rattle.journal.proofs.Splits.{at_each_none, at_each_push}
+use Rattle.meter.proofs.Splits.{at_each_none, at_each_push}
 use Rattle.journal.proofs.Growing.{Step, Dealt, grow, rests, account_none, till_grow, still, till_none}
 use Rattle.journal.proofs.AtMeter.{StepsTo, entry_steps, spend_steps}
 use Rattle.journal.proofs.AtTill.{Deals-to, draw_deals, issue_deals, void_deals}

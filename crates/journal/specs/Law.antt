@@ -32,7 +32,8 @@ use Rattle.journal.specs.declared.calls.Order.{Order}
 use Rattle.meter.specs.declared.calls.Usage.{Usage}
 use Rattle.journal.specs.Telling.{told}
 use Rattle.journal.specs.Hands.{held}
-use Rattle.journal.specs.Lines.{effect, total, times, drawn_times, issued_times, voided_times, draws, issues, voids, rates_issued, highest_in, index_in, tariff_after, writes_after, credit_after, AtEach}
+use Rattle.meter.specs.Journals.{total, writes_after, AtEach}
+use Rattle.journal.specs.Lines.{effect, times, drawn_times, issued_times, voided_times, draws, issues, voids, rates_issued, highest_in, index_in, tariff_after, credit_after}
 use Rattle.journal.specs.Standings.{World, NewWorld, Desk, standing_after, desk_after}
 
 -- the rules of each call, in the order in which they refuse

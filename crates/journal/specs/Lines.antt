@@ -1,21 +1,19 @@
--- What a journal says, line by line and in all. A call: text_of, amount_named, number_named, rates_named. A line at the meter: Effect,
--- nothing, effect_of, effect; at the till: Deal, idle, deal_of, deal. A journal: total, one_if, how_many, times, drawn_times,
--- issued_times, voided_times, draws, issues, voids, rates_issued, or_zero, highest_in, index_in, tariff_after, writes_after, credit_after;
--- AtEach, what holds of each line by those before it.
-use Rattle.std.specs.Prelude.{◌≡◌, ℕ, ◌+◌, ◌-◌, max, List, [], ◌∷◌, ◌++◌, Some, None, vec_items, sum_by, Option}
+-- What a journal says, line by line and in all. A call: text_of, amount_named, number_named, rates_named. A line at the meter: effect_of,
+-- effect; at the till: Deal, idle, deal_of, deal. A journal: how_many, times, drawn_times, issued_times, voided_times, draws, issues, voids,
+-- rates_issued, highest_in, index_in, tariff_after, credit_after.
+use Rattle.std.specs.Prelude.{ℕ, ◌+◌, ◌-◌, List, [], Some, None, vec_items, Option}
 use Rattle.token.specs.SubClasses.{sub_class_named}
 use Rattle.token.specs.declared.tariff.Tariff.{Tariff}
-use Rattle.record.specs.Changes.{tariff_with}
 use Rattle.sealing.specs.Indices.{one_for_rates}
 use Rattle.sealing.specs.Suites.{Suite}
 use Rattle.entry.specs.Reading.{slip_read, amount_read, tariff_brought}
+use Rattle.meter.specs.Journals.{Effect, nothing, total, one_if, highest_of, tariff_of}
 use Rattle.sale.specs.declared.orders.Sale.{Sale}
 use Rattle.journal.specs.declared.answers.Answer.{Answer}
 use Rattle.journal.specs.declared.answers.Answer.TheVariants.{Drawn, Issued, Voided, Taken, Spent, NotInHand, Refused}
 use Rattle.journal.specs.declared.calls.Call.{Call}
 use Rattle.journal.specs.declared.calls.Call.TheVariants.{Draw, Issue, Void, Enter, Spend}
 use Rattle.journal.specs.Noted.{Line}
-use Rattle.journal.specs.Hands.{one}
 
 -- the bytes that a call enters
 abbrev pub text_of : Call → List ℕ
@@ -52,18 +50,6 @@ rates_named (Issue o) = rates_in o.sale
 rates_named (Void v) = 0
 rates_named (Enter e) = 0
 rates_named (Spend u) = 0
-
--- what a line does at the meter: the amount added to the credit and the one taken off it, the number counted, the slips with rate
--- prices taken and the tariff that they bring
-pub record Effect : Type 0 where
-  pub added : ℕ
-  pub subtracted : ℕ
-  pub counted : Option ℕ
-  pub rates : ℕ
-  pub tariff : Option Tariff
-
-abbrev pub nothing : Effect
-nothing = record { added = 0; subtracted = 0; counted = None; rates = 0; tariff = None }
 
 -- An entry taken adds the amount that the rules read from its digits, whatever was answered; a spend performed takes off the
 -- amount that its call names; no other call does anything at the meter.
@@ -109,15 +95,6 @@ deal_of c (Refused e) = idle
 abbrev pub deal : Line → Deal
 deal l = deal_of l.call l.answer
 
--- the sum of something over a journal
-abbrev pub total : (Line → ℕ) → List Line → ℕ
-total f lines = sum_by f lines
-
--- 1 where there is a number and it is n
-abbrev pub one_if : Option ℕ → ℕ → ℕ
-one_if None n = 0
-one_if (Some k) n = one k n
-
 -- 1 where there is a number
 abbrev pub how_many : Option ℕ → ℕ
 how_many None = 0
@@ -150,15 +127,9 @@ voids lines = total (λ l. how_many (deal l).voided) lines
 abbrev pub rates_issued : List Line → ℕ
 rates_issued lines = total (λ l. (deal l).rates) lines
 
--- a number, 0 where there is none
-abbrev pub or_zero : Option ℕ → ℕ
-or_zero None = 0
-or_zero (Some k) = k
-
 -- the highest number counted, 0 at first
 abbrev pub highest_in : Suite → List Line → ℕ
-highest_in s [] = 0
-highest_in s (l ∷ ls) = max (or_zero (effect s l).counted) (highest_in s ls)
+highest_in s lines = highest_of (effect s) lines
 
 -- the meter's function index: the slips with rate prices taken
 abbrev pub index_in : Suite → List Line → ℕ
@@ -166,18 +137,8 @@ index_in s lines = total (λ l. (effect s l).rates) lines
 
 -- the tariff that the last slip with rate prices brought
 abbrev pub tariff_after : Suite → Option Tariff → List Line → Option Tariff
-tariff_after s old [] = old
-tariff_after s old (l ∷ ls) = tariff_after s (tariff_with (effect s l).tariff old) ls
-
--- the writes left after a journal
-abbrev pub writes_after : ℕ → List Line → ℕ
-writes_after writes [] = writes
-writes_after writes (l ∷ ls) = writes_after l.writes ls
+tariff_after s old lines = tariff_of (effect s) old lines
 
 -- the credit by a journal: what was there at the opening and what was added, less what was taken off
 abbrev pub credit_after : Suite → ℕ → List Line → ℕ
 credit_after s opening lines = opening + total (λ l. (effect s l).added) lines - total (λ l. (effect s l).subtracted) lines
-
--- P holds of each line and of all that went before it
-abbrev pub AtEach : (List Line → Line → Type 0) → List Line → Type 0
-AtEach P lines = (before after : List Line) (l : Line) → lines ≡ before ++ l ∷ after → P before l

@@ -10,7 +10,8 @@ use Rattle.till.specs.declared.counts.Counts.{Counts}
 use Rattle.till.specs.declared.drawn.DrawnNumber.{DrawnNumber}
 use Rattle.journal.specs.Noted.{Line}
 use Rattle.journal.specs.Hands.{is_in_hand}
-use Rattle.journal.specs.Lines.{times, drawn_times, issued_times, voided_times, draws, rates_issued, highest_in, index_in, writes_after, credit_after}
+use Rattle.meter.specs.Journals.{writes_after}
+use Rattle.journal.specs.Lines.{times, drawn_times, issued_times, voided_times, draws, rates_issued, highest_in, index_in, credit_after}
 
 -- the record that the meter's store means, and the writes that it has left; the till's counts and its function index; and the
 -- numbers in hand

@@ -6,11 +6,12 @@ use Rattle.window.proofs.Counting.{marked-blank}
 use Rattle.record.specs.declared.Record.{Record}
 use Rattle.record.specs.Changes.{NewRecord, tariff_with}
 use Rattle.sealing.specs.Suites.{Suite}
-use Rattle.ledger.specs.Journal.{effect, times, one_if, or_zero, highest_in}
+use Rattle.meter.specs.Journals.{one_if, or_zero}
+use Rattle.ledger.specs.Journal.{effect, times, highest_in}
 use Rattle.ledger.specs.Law.{Right, Law}
 use Rattle.ledger.specs.Noted.{Line}
-use Rattle.ledger.proofs.Splits.{at_each_none, at_each_push}
-use Rattle.ledger.proofs.Pushing.{total_push, highest_push, tariff_push, writes_push}
+use Rattle.meter.proofs.Splits.{at_each_none, at_each_push}
+use Rattle.meter.proofs.Pushing.{total_push, highest_push, tariff_push, writes_push}
 
 -- what one line changes, from one record to the next
 pub record Step (s : Suite) (start writes : ℕ) (h : List Line) (old : Record) (x : Line) (new : Record) (left : ℕ) : Type 0 where
@@ -33,9 +34,9 @@ grow s start writes h old had x new left l p =
       credit = omega (arith, l.credit, p.credit, plus, less);
       marks = λ n k. p.marks n k ∙ ap (ltb 0) (sym (counts n));
       once = λ n. omega (arith, p.once n, counts n);
-      highest = p.highest ∙ sym (highest_push s h x);
+      highest = p.highest ∙ sym (highest_push (effect s) h x);
       index = omega (arith, l.index, p.index, total_push (λ e. (effect s e).rates) h x);
-      tariff = p.tariff ∙ ap (tariff_with (effect s x).tariff) l.tariff ∙ sym (tariff_push s None h x);
+      tariff = p.tariff ∙ ap (tariff_with (effect s x).tariff) l.tariff ∙ sym (tariff_push (effect s) None h x);
       store = p.store ∙ sym (writes_push writes h x);
       right = at_each_push (Right s start writes) h x l.right p.right;
     }

@@ -1,5 +1,3 @@
-pub mod Splits
-pub mod Pushing
 pub mod Standings
 pub mod Growing
 pub mod NextCall

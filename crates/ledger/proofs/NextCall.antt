@@ -29,7 +29,8 @@ use Rattle.ledger.specs.declared.calls.Call.TheVariants.{Enter, Spend}
 use Rattle.meter.specs.declared.calls.Entry.{Entry}
 use Rattle.meter.specs.declared.calls.Usage.{Usage}
 use Rattle.ledger.specs.Noted.{Line}
-use Rattle.ledger.specs.Journal.{times, one_for_rates, standing_after}
+use Rattle.sealing.specs.Indices.{one_for_rates}
+use Rattle.ledger.specs.Journal.{times, standing_after}
 use Rattle.meter.specs.Telling.{entry_answer, spend_answer}
 use Rattle.meter.specs.Writing.{OneWrite, next_of, Moved}
 use Rattle.ledger.specs.Law.{Right, Law}

@@ -17,7 +17,8 @@ use Rattle.meter.specs.declared.answers.Spent as spent
 use Rattle.ledger.specs.declared.calls.Call.{Call}
 use Rattle.ledger.specs.declared.calls.Call.TheVariants.{Enter, Spend}
 use Rattle.ledger.specs.Noted.{Line}
-use Rattle.ledger.specs.Journal.{effect, total, times, highest_in, index_in, tariff_after, writes_after, standing_after, AtEach}
+use Rattle.meter.specs.Journals.{total, writes_after, AtEach}
+use Rattle.ledger.specs.Journal.{effect, times, highest_in, index_in, tariff_after, standing_after}
 
 -- an entry was taken rightly, where the meter stood so: every rule was kept; the number is the one of the window that its ten bits
 -- stand for; the answer tells it, the amount that the digits say, and the credit higher by that

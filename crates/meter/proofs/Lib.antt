@@ -1,2 +1,4 @@
 pub mod Obeying
+pub mod Pushing
+pub mod Splits
 mod Ways
