@@ -42,17 +42,6 @@ number_tail b i x =
 
 -- ---- blocks
 
--- lists by places
-pub same_map : {X : Type 0} (f g : ℕ → X) (d : X) (a n : ℕ) → ((k : ℕ) → k < n → f (a + k) ≡ g k) → map f (range_with_len a n) ≡ map g (range_with_len 0 n)
-same_map f g d a n h =
-    fill_by_all g (map f (range_with_len a n)) n d (length-map-range_with_len f a n) (λ k l. get_or-map-range_with_len f a n k (a + k) d l refl ∙ h k l)
-
-pub same_block : (xs ys : List ℕ) → ((j : ℕ) → j < 16 → get_or xs j 0 ≡ get_or ys j 0) → block_of xs ≡ block_of ys
-unfolding block_of
-same_block xs ys h =
-    ap (number_from_digits 256) (same_map (λ i. get_or xs i 0) (λ i. get_or ys i 0) 0 0 16
-    (λ k l. ap (λ (m : ℕ). get_or xs m 0) (let e : 0 + k ≡ k = omega arith in e) ∙ h k l))
-
 -- a block of sixteen bytes is their number
 pub block_exact : (xs : List ℕ) → length xs ≡ 16 → block_of xs ≡ number_from_digits 256 xs
 unfolding block_of

@@ -9,4 +9,4 @@ returns c =
     let key = mac_key c.args.self.now in
     c.mac.ensures
     ∙ ap (cmac key) (laid_out c.args.nonce.now c.counting_part-part.result.now c.put.new.row c.put-2.new.row c.told-nonce c.put.ensures c.put-2.ensures)
-    ∙ ap (λ (xs : List ℕ). cmac key (c.args.nonce.now ++ xs)) c.counting_part-part.ensures.0
+    ∙ ap (λ (xs : List ℕ). cmac key (c.args.nonce.now ++ xs)) c.counting_part-part.ensures.part
