@@ -1,5 +1,5 @@
 -- Sixteen bytes and the number of 128 bits that they spell; blocks by places; the bytes of a number are bytes.
-use Rattle.std.proofs.Common.{◌≡◌, ℕ, zero, suc, ◌+◌, ◌*◌, ◌/◌, ◌^◌, ◌<◌, List, map, length, get_or, sym, refl, ap, ◌∙◌, lit<, mod-lt, arith}
+use Rattle.std.proofs.Common.{◌≡◌, ℕ, zero, suc, ◌+◌, ◌*◌, ◌/◌, ◌^◌, ◌<◌, List, map, length, get_or, sym, refl, ap, ◌∙◌, pow-suc, lit<, mod-lt, arith, pow-add}
 use Rattle.std.specs.List.{range_with_len}
 use Rattle.std.specs.Int.Digits.{number_from_digits, AllBelowBase}
 use Rattle.std.proofs.lemmas.List.FromFn.{fill_by_all, length-map-range_with_len, get_or-map-range_with_len}
@@ -31,6 +31,13 @@ unfolding block_of
 same_block xs ys h =
     ap (number_from_digits 256) (same_map (λ i. get_or xs i 0) (λ i. get_or ys i 0) 0 0 16
     (λ k l. ap (λ (m : ℕ). get_or xs m 0) (let e : 0 + k ≡ k = omega arith in e) ∙ h k l))
+
+-- a power of 256 as one of 2
+pub power_256 : (k : ℕ) → 256 ^ k ≡ 2 ^ (8 * k)
+power_256 zero = refl
+power_256 (suc k) =
+    pow-suc 256 k ∙ ap (λ (n : ℕ). n * 256) (power_256 k) ∙ sym (pow-add 2 (8 * k) 8)
+    ∙ ap (λ (n : ℕ). 2 ^ n) (let e : 8 * k + 8 ≡ 8 * suc k = omega arith in e)
 
 pub bytes_below : (k n : ℕ) → AllBelowBase 256 (bytes_of k n)
 bytes_below zero n = tt

@@ -4,16 +4,10 @@ use lib.Bits.{bit_xor}
 use lib.Arith.{digits_lt}
 use Rattle.std.proofs.lemmas.Nat.{div_below}
 use Rattle.chaining.specs.Blocks.{aes_block}
+use Rattle.chaining.proofs.Numbers.{power_256}
 use Rattle.feistel.specs.Feistel.{alternate, round, unround, run, unrun, halves, whole}
 use Rattle.ff1.specs.Ff1.{drawn_bytes}
 use Rattle.ff1.specs.Network.{masked}
-
--- a power of 256 as one of 2
-pub power_256 : (k : ℕ) → 256 ^ k ≡ 2 ^ (8 * k)
-power_256 zero = refl
-power_256 (suc k) =
-    pow-suc 256 k ∙ ap (λ (n : ℕ). n * 256) (power_256 k) ∙ sym (pow-add 2 (8 * k) 8)
-    ∙ ap (λ (n : ℕ). 2 ^ n) (let e : 8 * k + 8 ≡ 8 * suc k = omega arith in e)
 
 pub round_is : (key : List ℕ) (mask b i x j y z : ℕ) → i < 10 → b ≤ 8 → x < 256 ^ b → j ≡ i → y ≡ x
     → z ≡ aes_block key (bit_xor mask (j * 2 ^ (8 * b) % 2 ^ 128 + y)) → z / 2 ^ (8 * (12 - (b + 3) / 4 * 4)) ≡ masked key mask b i x
