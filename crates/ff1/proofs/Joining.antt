@@ -1,5 +1,5 @@
 -- The network over what was prepared is FF1: for any radix, length and tweak that there is room for, and at the two widths of a cipher.
-use Rattle.std.proofs.Common.{◌≡◌, ℕ, ◌-◌, ◌*◌, ◌/◌, ◌%◌, ◌^◌, ◌<◌, ◌≤◌, true, cond, leb, List, length, Some, None, sym, refl, ap, ◌∙◌, subst, ap₂, mod-lt, arith, lit≤}
+use Rattle.std.proofs.Common.{◌≡◌, ℕ, ◌-◌, ◌*◌, ◌/◌, ◌%◌, ◌^◌, ◌<◌, ◌≤◌, true, cond, leb, List, length, Some, None, sym, refl, ap, ◌∙◌, subst, ap₂, arith, lit≤}
 use mathlib.Core.Path.{Cosingl, contract'}
 use native.Mathlib.Nat.{one-le-pow}
 use Rattle.aes.specs.Keyed.{aes_for, key_of}
@@ -53,29 +53,13 @@ ready r n key tweak R h l e =
       some = one-le-pow n r (omega arith);
     }
 
--- what the rounds make of a number, counted modulo the size s
-module _ (r n : ℕ) (key tweak : List ℕ) (R : Rounds) (h : Ready r n key tweak R) (s y : ℕ) (e : s ≡ R.sizes.left * R.sizes.right) where
-  pub some_size : 0 < s
-  some_size = omega (arith, h.product, h.some)
-
-  pub below-size : y % s < R.sizes.left * R.sizes.right
-  below-size = subst (λ (k : ℕ). y % s < k) e (mod-lt y some_size)
-
-  pub enciphered : (z : ℕ) → z ≡ through key R (y % s) → z ≡ ff1 r n key tweak (y % r ^ n)
-  enciphered z ez =
-      ez ∙ ap₂ (λ (Q : Rounds) (k : ℕ). through key Q (y % k)) h.is (e ∙ h.product) ∙ through_is r n key tweak (y % r ^ n) h.few
-
-  pub deciphered : (z : ℕ) → z ≡ back_through key R (y % s) → z ≡ ff1_back r n key tweak (y % r ^ n)
-  deciphered z ez =
-      ez ∙ ap₂ (λ (Q : Rounds) (k : ℕ). back_through key Q (y % k)) h.is (e ∙ h.product) ∙ back_is r n key tweak (y % r ^ n) h.few
-
--- and of a number that was cut to its low bits before
+-- what the rounds make of the low part of a number
 module _ (r n : ℕ) (key tweak : List ℕ) (R : Rounds) (h : Ready r n key tweak R) (y x : ℕ) (e : x ≡ y % r ^ n) where
-  pub enciphered_width : (z : ℕ) → z ≡ through key R x → z ≡ ff1 r n key tweak (y % r ^ n)
-  enciphered_width z ez = ez ∙ ap₂ (through key) h.is e ∙ through_is r n key tweak (y % r ^ n) h.few
+  pub enciphered : (z : ℕ) → z ≡ through key R x → z ≡ ff1 r n key tweak (y % r ^ n)
+  enciphered z ez = ez ∙ ap₂ (through key) h.is e ∙ through_is r n key tweak (y % r ^ n) h.few
 
-  pub deciphered_width : (z : ℕ) → z ≡ back_through key R x → z ≡ ff1_back r n key tweak (y % r ^ n)
-  deciphered_width z ez = ez ∙ ap₂ (back_through key) h.is e ∙ back_is r n key tweak (y % r ^ n) h.few
+  pub deciphered : (z : ℕ) → z ≡ back_through key R x → z ≡ ff1_back r n key tweak (y % r ^ n)
+  deciphered z ez = ez ∙ ap₂ (back_through key) h.is e ∙ back_is r n key tweak (y % r ^ n) h.few
 
 -- a test that was passed for radix, length and tweak
 pub ready_there : (r n : ℕ) (key tweak : List ℕ) (R : Rounds)
@@ -94,9 +78,6 @@ width_fits Further = lit≤ tt
 
 pub width_ready : (w : Width) (key tweak : List ℕ) (R : Rounds) → R ≡ rounds_of 2 (bits w) key tweak → Ready 2 (bits w) key tweak R
 width_ready w key tweak R e = ready 2 (bits w) key tweak R (lit≤ tt) (width_fits w) e
-
-pub width_few : (w : Width) → half_bytes 2 (bits w) ≤ 8
-width_few w = (sized 2 (bits w) (lit≤ tt) (width_fits w)).few
 
 -- a value with a key, a MeterID and what is prepared for them is the one that they make
 pub made : (key : List ℕ) (meter : ℕ) (a : Aes128) (p : Prepared) (e : p ≡ prepared_for (key_of a) meter) → a ≡ aes_for key

@@ -2,15 +2,16 @@
 ghost use Rattle.std.specs.Prelude.{◌≡◌, ◌≤◌, length, if◌then◌else◌, Some, None};
 ghost use Rattle.aes.specs.Keyed.{key_of};
 ghost use Rattle.ff1.specs.Ff1.{half_bytes, head_block};
-ghost use Rattle.ff1.specs.Sizes.{sizes_of, room_for};
+ghost use Rattle.ff1.specs.Sizes.{room_for};
 ghost use Rattle.ff1.specs.Preparing.{mask_of, rounds_of};
 
-use crate::rounds::{Rounds, Sizes};
+use crate::rounds::Rounds;
 use crate::sizing::sizes_of;
 use aes::Aes128;
 use chaining::{BlockMap, block_of, chain};
 
 // The first block of every round.
+#[tactic(auto, using(crate::proofs::Heading::head_is))]
 fn head_block(radix: u32, digits: u32, tweak_len: u8) -> [u8; 16]
     ensures { result ≡ head_block radix digits tweak_len }
 {
@@ -31,26 +32,9 @@ fn mask_of(aes: &Aes128, radix: u32, digits: u32, bytes: u32, tweak: &[u8]) -> u
 {
     let head = head_block(radix, digits, tweak.len() as u8);
     let leading = (tweak.len() + bytes as usize) / 16 * 16;
-    let cut = leading.min(tweak.len());
+    let (front, rest) = tweak.split_at(leading.min(tweak.len()));
     let start = aes.apply(block_of(&head));
-    chain(aes, start, &tweak[..cut]) ^ block_of(&tweak[cut..])
-}
-
-// For sizes that are known already.
-pub(crate) fn rounds_with(
-    aes: &Aes128,
-    radix: u32,
-    digits: u32,
-    sizes: Sizes,
-    tweak: &[u8],
-) -> Rounds
-    requires sizes { sizes ≡ sizes_of radix digits }
-    requires few { half_bytes radix digits ≤ 8 }
-    requires short { length tweak.now ≤ 255 }
-    ensures { result ≡ rounds_of radix digits (key_of aes.now) tweak.now }
-{
-    let mask = mask_of(aes, radix, digits, sizes.bytes, tweak);
-    Rounds { sizes, mask }
+    chain(aes, start, front) ^ block_of(rest)
 }
 
 // For any radix, length and tweak that there is room for.
@@ -61,5 +45,6 @@ pub(crate) fn rounds_of(aes: &Aes128, radix: u32, digits: u32, tweak: &[u8]) -> 
     if tweak.len() > 255 {
         return None;
     }
-    Some(rounds_with(aes, radix, digits, sizes, tweak))
+    let mask = mask_of(aes, radix, digits, sizes.bytes, tweak);
+    Some(Rounds { sizes, mask })
 }

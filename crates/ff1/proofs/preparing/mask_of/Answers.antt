@@ -6,7 +6,7 @@ use Rattle.ff1.proofs.preparing.mask_of.Goals as goal
 
 pub returns : goal.returns
 returns c =
-    mask_is c.args.radix c.args.digits (key_of c.args.aes.now) c.args.tweak.now _ c.min-cut.result c.head_block-head.result
-    c.block_of.result c.apply-start.result c.chain.result c.block_of-2.result
-    (ap (λ (b : ℕ). leading b (length c.args.tweak.now)) c.requires.bytes) c.min-cut.ensures c.head_block-head.ensures c.block_of.ensures
-    c.apply-start.ensures c.chain.ensures c.block_of-2.ensures
+    mask_is c.args.radix c.args.digits (key_of c.args.aes.now) c.args.tweak.now _ c.min.result c.head_block-head.result
+    c.split_at.result.0.now c.split_at.result.1.now c.block_of.result c.apply-start.result c.chain.result c.block_of-2.result
+    (ap (λ (b : ℕ). leading b (length c.args.tweak.now)) c.requires.bytes) c.min.ensures c.head_block-head.ensures c.block_of.ensures
+    c.apply-start.ensures c.split_at.ensures.front c.split_at.ensures.back c.chain.ensures c.block_of-2.ensures
