@@ -9,12 +9,13 @@ use Rattle.cipher.specs.declared.width.Width.{Width}
 use Rattle.cipher.specs.declared.width.Width.TheVariants.{First, Further}
 use Rattle.feistel.specs.Feistel.{run, unrun, alternate, halves, whole, forward, backward}
 use Rattle.feistel.proofs.Undoing.{parts}
-use Rattle.ff1.specs.Ff1.{half_bytes, ff1, ff1_back}
-use Rattle.ff1.specs.Sizes.{allowed, room_for, Sized}
+use Rattle.ff1.specs.Ff1.{byte_count, half_bytes, ff1, ff1_back}
+use Rattle.ff1.specs.Sizes.{sizes_of, allowed, room_for, Sized}
 use Rattle.ff1.specs.Network.{through, back_through}
 use Rattle.ff1.specs.Preparing.{rounds_of, prepared_for}
 use Rattle.ff1.specs.Ciphering.{ff1_for}
 use Rattle.ff1.specs.declared.rounds.Rounds.{Rounds}
+use Rattle.ff1.specs.declared.rounds.Sizes.{Sizes}
 use Rattle.ff1.specs.declared.rounds.Prepared.{Prepared}
 use Rattle.ff1.specs.declared.state.Ff1.{Ff1}
 use Rattle.ff1.proofs.Powers.{passed, both_true, allowed_means, sized}
@@ -78,6 +79,15 @@ width_fits Further = lit≤ tt
 
 pub width_ready : (w : Width) (key tweak : List ℕ) (R : Rounds) → R ≡ rounds_of 2 (bits w) key tweak → Ready 2 (bits w) key tweak R
 width_ready w key tweak R e = ready 2 (bits w) key tweak R (lit≤ tt) (width_fits w) e
+
+pub width_few : (w : Width) → half_bytes 2 (bits w) ≤ 8
+width_few w = (sized 2 (bits w) (lit≤ tt) (width_fits w)).few
+
+-- the sizes of a width, where b is its count of bits
+pub binary_is : (w : Width) (b : ℕ) → b ≡ bits w → ◌≡◌ {A = Sizes} (record { left = 1 * 2 ^ (b / 2) % 2 ^ 64; right = 1 * 2 ^ (b - b / 2) % 2 ^ 64; bytes = 4 }) (sizes_of 2 (bits w))
+unfolding half_bytes byte_count
+binary_is First b e = ap (λ (k : ℕ). record { left = 1 * 2 ^ (k / 2) % 2 ^ 64; right = 1 * 2 ^ (k - k / 2) % 2 ^ 64; bytes = 4 }) e
+binary_is Further b e = ap (λ (k : ℕ). record { left = 1 * 2 ^ (k / 2) % 2 ^ 64; right = 1 * 2 ^ (k - k / 2) % 2 ^ 64; bytes = 4 }) e
 
 -- a value with a key, a MeterID and what is prepared for them is the one that they make
 pub made : (key : List ℕ) (meter : ℕ) (a : Aes128) (p : Prepared) (e : p ≡ prepared_for (key_of a) meter) → a ≡ aes_for key

@@ -23,7 +23,7 @@ use cipher::Cipher;
 use cipher::clear::low_bits;
 use cipher::width::Width;
 use network::Network;
-use preparing::rounds_of;
+use preparing::{rounds_for, rounds_of};
 use rounds::Prepared;
 pub use state::Ff1;
 
@@ -110,8 +110,8 @@ impl Cipher for Ff1 {
     fn keyed(key: &[u8; 16], meter: u64) -> Ff1 {
         let aes = Aes128::new(key);
         let tweak = meter.to_be_bytes();
-        let first = rounds_of(&aes, 2, Width::First.bits(), &tweak).unwrap();
-        let further = rounds_of(&aes, 2, Width::Further.bits(), &tweak).unwrap();
+        let first = rounds_for(&aes, Width::First, &tweak);
+        let further = rounds_for(&aes, Width::Further, &tweak);
         Ff1 {
             aes,
             meter,

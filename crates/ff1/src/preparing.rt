@@ -1,14 +1,16 @@
 // What is computed once for a key and a tweak.
 ghost use Rattle.std.specs.Prelude.{◌≡◌, ◌≤◌, length, if◌then◌else◌, Some, None};
 ghost use Rattle.aes.specs.Keyed.{key_of};
+ghost use Rattle.cipher.specs.Widths.{bits};
 ghost use Rattle.ff1.specs.Ff1.{half_bytes, head_block};
-ghost use Rattle.ff1.specs.Sizes.{room_for};
+ghost use Rattle.ff1.specs.Sizes.{sizes_of, room_for};
 ghost use Rattle.ff1.specs.Preparing.{mask_of, rounds_of};
 
-use crate::rounds::Rounds;
-use crate::sizing::sizes_of;
+use crate::rounds::{Rounds, Sizes};
+use crate::sizing::{binary, sizes_of};
 use aes::Aes128;
 use chaining::{BlockMap, block_of, chain};
+use cipher::width::Width;
 
 // The first block of every round.
 #[tactic(auto, using(crate::proofs::Heading::head_is))]
@@ -37,6 +39,25 @@ fn mask_of(aes: &Aes128, radix: u32, digits: u32, bytes: u32, tweak: &[u8]) -> u
     chain(aes, start, front) ^ block_of(rest)
 }
 
+// For sizes that are known already.
+fn rounds_with(aes: &Aes128, radix: u32, digits: u32, sizes: Sizes, tweak: &[u8]) -> Rounds
+    requires sizes { sizes ≡ sizes_of radix digits }
+    requires few { half_bytes radix digits ≤ 8 }
+    requires short { length tweak.now ≤ 255 }
+    ensures { result ≡ rounds_of radix digits (key_of aes.now) tweak.now }
+{
+    let mask = mask_of(aes, radix, digits, sizes.bytes, tweak);
+    Rounds { sizes, mask }
+}
+
+// For a width of a cipher, whose sizes are constants: with those of `rounds_of` enciphering 59 bits took 961 ns in the place of 729.
+#[tactic(auto, using(crate::proofs::Joining::width_few))]
+pub(crate) fn rounds_for(aes: &Aes128, width: Width, tweak: &[u8; 8]) -> Rounds
+    ensures { result ≡ rounds_of 2 (bits width) (key_of aes.now) tweak.now }
+{
+    rounds_with(aes, 2, width.bits(), binary(width), tweak)
+}
+
 // For any radix, length and tweak that there is room for.
 pub(crate) fn rounds_of(aes: &Aes128, radix: u32, digits: u32, tweak: &[u8]) -> Option<Rounds>
     ensures { result ≡ (if room_for radix digits tweak.now then Some (rounds_of radix digits (key_of aes.now) tweak.now) else None) }
@@ -45,6 +66,5 @@ pub(crate) fn rounds_of(aes: &Aes128, radix: u32, digits: u32, tweak: &[u8]) -> 
     if tweak.len() > 255 {
         return None;
     }
-    let mask = mask_of(aes, radix, digits, sizes.bytes, tweak);
-    Some(Rounds { sizes, mask })
+    Some(rounds_with(aes, radix, digits, sizes, tweak))
 }

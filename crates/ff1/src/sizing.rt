@@ -1,9 +1,11 @@
 // How large the halves of a number are.
 ghost use Rattle.std.specs.Prelude.{◌≡◌, ◌^◌, ◌≤◌, if◌then◌else◌, Some, None, nat_le};
+ghost use Rattle.cipher.specs.Widths.{bits};
 ghost use Rattle.ff1.specs.Ff1.{byte_count};
 ghost use Rattle.ff1.specs.Sizes.{sizes_of, allowed};
 
 use crate::rounds::Sizes;
+use cipher::width::Width;
 
 // A power of the radix, unless it is above 2^63.
 fn power(radix: u32, n: u32) -> Option<u64>
@@ -34,4 +36,16 @@ pub(crate) fn sizes_of(radix: u32, digits: u32) -> Option<Sizes>
         right,
         bytes: byte_count(right - 1),
     })
+}
+
+// The sizes for numbers in as many bits as a width has.
+pub(crate) fn binary(width: Width) -> Sizes
+    ensures { result ≡ sizes_of 2 (bits width) }
+{
+    let digits = width.bits();
+    Sizes {
+        left: 1 << (digits / 2),
+        right: 1 << (digits - digits / 2),
+        bytes: 4,
+    }
 }
