@@ -13,6 +13,7 @@ ghost use Rattle.ff1.specs.Ciphering.{ff1_for, ff1_enciphered, ff1_deciphered};
 ghost use Rattle.ff1.specs.CipheringLaws.{ff1_below, ff1_within, ff1_undone};
 
 pub(crate) mod network;
+pub(crate) mod numerals;
 pub(crate) mod preparing;
 pub mod rounds;
 pub(crate) mod sizing;
