@@ -59,19 +59,22 @@ given_back key ks h e =
     ∙ map_same (λ n. packed (round_key key n)) unpacked (round_key key)
     (λ n. let b = round_key_block key h n in unpacked_own (round_key key n) b.0 b.1) (range_with_len 0 11)
 
+pub words_are : (key : List ℕ) (n : ℕ) (r : List ℕ) → length r ≡ 4 → ((i : ℕ) → get_or r i 0 < 2 ^ 32) → unpacked r ≡ round_key key n
+    → r ≡ packed (round_key key n)
+words_are key n r e h hr = packed_own r e h ∙ ap packed hr
+
 -- one key more: from the words k of the round key n, the words r of the next
-pub key_step : (key : List ℕ) (n c : ℕ) (k r : List ℕ) → unpacked k ≡ round_key key n → c ≡ round_constant n
-    → unpacked r ≡ next_key c (unpacked k) → unpacked r ≡ round_key key (n + 1)
+pub key_step : (key : List ℕ) → Block key → (n c : ℕ) (k r : List ℕ) → k ≡ packed (round_key key n) → c ≡ round_constant n
+    → length r ≡ 4 → ((i : ℕ) → get_or r i 0 < 2 ^ 32) → unpacked r ≡ next_key c (unpacked k) → r ≡ packed (round_key key (n + 1))
 unfolding round_key
-key_step key n c k r hk hc hr = hr ∙ ap₂ next_key hc hk ∙ sym (ap (round_key key) (add-one n))
+key_step key h n c k r hk hc er fits hr =
+    let b = round_key_block key h n in
+    words_are key (n + 1) r er fits
+    (hr ∙ ap₂ next_key hc (ap unpacked hk ∙ unpacked_own (round_key key n) b.0 b.1) ∙ sym (ap (round_key key) (add-one n)))
 
 pub constant_step : (n c d : ℕ) → c ≡ round_constant n → d ≡ xtime c → d ≡ round_constant (n + 1)
 unfolding round_constant
 constant_step n c d hc hd = hd ∙ ap xtime hc ∙ sym (ap round_constant (add-one n))
-
-pub words_are : (key : List ℕ) (n : ℕ) (r : List ℕ) → length r ≡ 4 → ((i : ℕ) → get_or r i 0 < 2 ^ 32) → unpacked r ≡ round_key key n
-    → r ≡ packed (round_key key n)
-words_are key n r e h hr = packed_own r e h ∙ ap packed hr
 
 -- a value with the key and the words kept for it is the one that the key makes
 pub made : (key : List ℕ) (ks : List (List ℕ)) (e : ks ≡ expanded key)

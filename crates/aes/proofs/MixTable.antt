@@ -1,9 +1,10 @@
 -- The table of mixed columns holds what the definition says, computed once over the whole of it; and its entries turned by one, two
 -- and three rows.
-use Rattle.std.proofs.Common.{◌≡◌, ℕ, ◌+◌, ◌*◌, ◌/◌, ◌%◌, ◌^◌, ◌<◌, List, [], ◌∷◌, get_or, sym, ap, ◌∙◌, subst, arith}
-use lib.Bits.{bit_or, or_shifted_r, xor_lt}
+use Rattle.std.proofs.Common.{◌≡◌, ℕ, zero, suc, ◌+◌, ◌*◌, ◌/◌, ◌%◌, ◌^◌, ◌<◌, w32, List, [], ◌∷◌, get_or, sym, ap, ◌∙◌, ap₂, subst, arith}
+use lib.Bits.{bit_or, or_shifted_r, or_self, xor_lt}
+use Rattle.std.specs.Int.{rotate_right}
 use Rattle.aes.specs.Field.{xtime, mul_bits, mul, squares, inverse, turned_left, affine, sbox}
-use Rattle.aes.specs.Words.{Bytes, word, once, twice, thrice, spread}
+use Rattle.aes.specs.Words.{Bytes, TurnedDown, word, once, twice, thrice, spread}
 use Rattle.aes.proofs.Table.{computed}
 use Rattle.aes.proofs.SboxTable.{sbox_byte}
 use Rattle.aes.proofs.Xors.{joined_bytes}
@@ -67,7 +68,15 @@ thrice_byte x h = xor_lt 8 (xtime (sbox x)) (sbox x) (xtime_byte (sbox x) (sbox_
 turn : (k lo hi up : ℕ) → lo < 2 ^ k → up ≡ hi * 2 ^ k → bit_or lo up ≡ hi * 2 ^ k + lo
 turn k lo hi up h e = ap (bit_or lo) e ∙ or_shifted_r hi k lo h
 
--- the word of four bytes, turned right by one, two and three bytes, as `rotate_right` has it
+-- the word of four bytes, turned right by no, one, two and three bytes, as `rotate_right` has it
+turn0 : (a b c d : ℕ) → a < 256 → b < 256 → c < 256 → d < 256
+    → bit_or (word a b c d / 2 ^ 0) (word a b c d * 2 ^ 0 % 2 ^ 32) ≡ word a b c d
+turn0 a b c d ha hb hc hd =
+    let w : ℕ = word a b c d in
+    let e : w / 2 ^ 0 ≡ w = omega arith in
+    let f : w * 2 ^ 0 % 2 ^ 32 ≡ w = omega arith in
+    ap₂ bit_or e f ∙ or_self w
+
 turn1 : (a b c d : ℕ) → a < 256 → b < 256 → c < 256 → d < 256
     → bit_or (word a b c d / 2 ^ 8) (word a b c d * 2 ^ 24 % 2 ^ 32) ≡ word d a b c
 turn1 a b c d ha hb hc hd = turn 24 (word a b c d / 2 ^ 8) d (word a b c d * 2 ^ 24 % 2 ^ 32) (omega arith) (omega arith) ∙ (omega arith)
@@ -82,34 +91,21 @@ turn3 : (a b c d : ℕ) → a < 256 → b < 256 → c < 256 → d < 256
 turn3 a b c d ha hb hc hd =
     turn 8 (word a b c d / 2 ^ 24) (b * 65536 + c * 256 + d) (word a b c d * 2 ^ 8 % 2 ^ 32) (omega arith) (omega arith) ∙ (omega arith)
 
--- a word that is the entry for x, turned by t, has the bytes of that entry in another order
-module _ (x : ℕ) (h : x < 256) where
-  pub row0 : {w : ℕ} → w ≡ get_or table x 0 → Bytes w (twice x) (once x) (once x) (thrice x)
-  unfolding spread
-  row0 {w} e =
-      subst (λ (v : ℕ). Bytes v (twice x) (once x) (once x) (thrice x)) (sym (e ∙ table_is x h))
-      (joined_bytes (twice x) (once x) (once x) (thrice x) (twice_byte x h) (once_byte x h) (once_byte x h) (thrice_byte x h))
+-- and so it has its bytes turned down by as many rows
+turned : (r a b c d : ℕ) {w : ℕ} → r < 4 → a < 256 → b < 256 → c < 256 → d < 256 → w ≡ rotate_right w32 (word a b c d) (8 * r) → TurnedDown r w a b c d
+turned zero a b c d l ha hb hc hd e =
+    subst (λ (v : ℕ). Bytes v a b c d) (sym (e ∙ turn0 a b c d ha hb hc hd)) (joined_bytes a b c d ha hb hc hd)
+turned (suc zero) a b c d l ha hb hc hd e =
+    subst (λ (v : ℕ). Bytes v d a b c) (sym (e ∙ turn1 a b c d ha hb hc hd)) (joined_bytes d a b c hd ha hb hc)
+turned (suc (suc zero)) a b c d l ha hb hc hd e =
+    subst (λ (v : ℕ). Bytes v c d a b) (sym (e ∙ turn2 a b c d ha hb hc hd)) (joined_bytes c d a b hc hd ha hb)
+turned (suc (suc (suc zero))) a b c d l ha hb hc hd e =
+    subst (λ (v : ℕ). Bytes v b c d a) (sym (e ∙ turn3 a b c d ha hb hc hd)) (joined_bytes b c d a hb hc hd ha)
+turned (suc (suc (suc (suc r)))) a b c d l ha hb hc hd e = absurd (omega arith)
 
-  pub row1 : {w : ℕ} → w ≡ bit_or (get_or table x 0 / 2 ^ 8) (get_or table x 0 * 2 ^ 24 % 2 ^ 32) → Bytes w (thrice x) (twice x) (once x) (once x)
-  unfolding spread
-  row1 {w} e =
-      subst (λ (v : ℕ). Bytes v (thrice x) (twice x) (once x) (once x))
-      (sym (e ∙ ap (λ (v : ℕ). bit_or (v / 2 ^ 8) (v * 2 ^ 24 % 2 ^ 32)) (table_is x h)
-      ∙ turn1 (twice x) (once x) (once x) (thrice x) (twice_byte x h) (once_byte x h) (once_byte x h) (thrice_byte x h)))
-      (joined_bytes (thrice x) (twice x) (once x) (once x) (thrice_byte x h) (twice_byte x h) (once_byte x h) (once_byte x h))
-
-  pub row2 : {w : ℕ} → w ≡ bit_or (get_or table x 0 / 2 ^ 16) (get_or table x 0 * 2 ^ 16 % 2 ^ 32) → Bytes w (once x) (thrice x) (twice x) (once x)
-  unfolding spread
-  row2 {w} e =
-      subst (λ (v : ℕ). Bytes v (once x) (thrice x) (twice x) (once x))
-      (sym (e ∙ ap (λ (v : ℕ). bit_or (v / 2 ^ 16) (v * 2 ^ 16 % 2 ^ 32)) (table_is x h)
-      ∙ turn2 (twice x) (once x) (once x) (thrice x) (twice_byte x h) (once_byte x h) (once_byte x h) (thrice_byte x h)))
-      (joined_bytes (once x) (thrice x) (twice x) (once x) (once_byte x h) (thrice_byte x h) (twice_byte x h) (once_byte x h))
-
-  pub row3 : {w : ℕ} → w ≡ bit_or (get_or table x 0 / 2 ^ 24) (get_or table x 0 * 2 ^ 8 % 2 ^ 32) → Bytes w (once x) (once x) (thrice x) (twice x)
-  unfolding spread
-  row3 {w} e =
-      subst (λ (v : ℕ). Bytes v (once x) (once x) (thrice x) (twice x))
-      (sym (e ∙ ap (λ (v : ℕ). bit_or (v / 2 ^ 24) (v * 2 ^ 8 % 2 ^ 32)) (table_is x h)
-      ∙ turn3 (twice x) (once x) (once x) (thrice x) (twice_byte x h) (once_byte x h) (once_byte x h) (thrice_byte x h)))
-      (joined_bytes (once x) (once x) (thrice x) (twice x) (once_byte x h) (once_byte x h) (thrice_byte x h) (twice_byte x h))
+-- a word that is the entry for x, turned right by r bytes
+pub row_is : (r x : ℕ) {w : ℕ} → r < 4 → x < 256 → w ≡ rotate_right w32 (get_or table x 0) (8 * r) → TurnedDown r w (twice x) (once x) (once x) (thrice x)
+unfolding spread
+row_is r x l h e =
+    turned r (twice x) (once x) (once x) (thrice x) l (twice_byte x h) (once_byte x h) (once_byte x h) (thrice_byte x h)
+    (e ∙ ap (λ (v : ℕ). rotate_right w32 v (8 * r)) (table_is x h))

@@ -1,10 +1,12 @@
 -- Words by their bytes: xors of words, a mixed column, a round, a loaded block, the words of bytes and the bytes of words.
-use Rattle.std.proofs.Common.{◌≡◌, ℕ, ◌/◌, ◌%◌, ◌^◌, ◌<◌, List, [], ◌∷◌, length, get_or, sym, refl, ap, ◌∙◌, ap₂, arith}
+use Rattle.std.proofs.Common.{◌≡◌, ℕ, ◌+◌, ◌/◌, ◌%◌, ◌^◌, ◌<◌, List, [], ◌∷◌, map, length, get_or, take, drop, sym, refl, ap, ◌∙◌, ap₂, arith, lit<, get_or-drop, get_or-take}
 use native.Mathlib.Nat.{div-div-eq-div-mul}
+use Rattle.std.specs.List.{range_with_len}
+use Rattle.std.specs.Simd.{first_chunks}
 use Rattle.std.proofs.lemmas.List.FromFn.{fill_by_all}
 use lib.Bits.{bit_xor, xor_shr, xor_mod, xor_assoc, xor_comm}
 use Rattle.aes.specs.Aes.{sub_bytes, shift_rows, mix_columns, add_round_key, key_byte, next_key}
-use Rattle.aes.specs.Words.{Bytes, Mixed, once, twice, thrice, top, second, third, low, word, unpacked, packed, full_round, last_round, Last, Turned}
+use Rattle.aes.specs.Words.{Bytes, ByColumns, Mixed, once, twice, thrice, top, second, third, low, word, unpacked, packed, full_round, last_round, Last, Turned}
 
 -- the eight bits from the bit k on: of a xor, the xor of those
 part : (k : ℕ) (x y : ℕ) → bit_xor x y / 2 ^ k % 2 ^ 8 ≡ bit_xor (x / 2 ^ k % 2 ^ 8) (y / 2 ^ k % 2 ^ 8)
@@ -53,22 +55,21 @@ cons4 e₁ e₂ e₃ e₄ e = λ i. e₁ i ∷ e₂ i ∷ e₃ i ∷ e₄ i ∷ 
 bytes4 : {w a b c d : ℕ} {xs ys : List ℕ} → Bytes w a b c d → xs ≡ ys → top w ∷ second w ∷ third w ∷ low w ∷ xs ≡ a ∷ b ∷ c ∷ d ∷ ys
 bytes4 h e = cons4 h.is_top h.is_second h.is_third h.is_low e
 
--- over the words of the lists s and k
-pub round_is : (s k : List ℕ) {p q r t : ℕ}
-    → let a = get_or s 0 0 in let b = get_or s 1 0 in let c = get_or s 2 0 in let d = get_or s 3 0 in
-    Mixed p (top a) (second b) (third c) (low d) (get_or k 0 0) → Mixed q (top b) (second c) (third d) (low a) (get_or k 1 0)
-    → Mixed r (top c) (second d) (third a) (low b) (get_or k 2 0) → Mixed t (top d) (second a) (third b) (low c) (get_or k 3 0)
-    → unpacked (p ∷ q ∷ r ∷ t ∷ []) ≡ full_round (unpacked s) (unpacked k)
-unfolding full_round add_round_key mix_columns shift_rows sub_bytes
-round_is s k hp hq hr ht = bytes4 hp (bytes4 hq (bytes4 hr (bytes4 ht refl)))
+-- a map on the bytes of a column and a word of the round key that gives a mixed column, and one that gives a column of the last state
+abbrev pub MixesTo : List ℕ → ℕ → ℕ → Type 0
+MixesTo bs k w = Mixed w (get_or bs 0 0) (get_or bs 1 0) (get_or bs 2 0) (get_or bs 3 0) k
 
-pub last_is : (s k : List ℕ) {p q r t : ℕ}
-    → let a = get_or s 0 0 in let b = get_or s 1 0 in let c = get_or s 2 0 in let d = get_or s 3 0 in
-    Last p (top a) (second b) (third c) (low d) (get_or k 0 0) → Last q (top b) (second c) (third d) (low a) (get_or k 1 0)
-    → Last r (top c) (second d) (third a) (low b) (get_or k 2 0) → Last t (top d) (second a) (third b) (low c) (get_or k 3 0)
-    → unpacked (p ∷ q ∷ r ∷ t ∷ []) ≡ last_round (unpacked s) (unpacked k)
+abbrev pub EndsIn : List ℕ → ℕ → ℕ → Type 0
+EndsIn bs k w = Last w (get_or bs 0 0) (get_or bs 1 0) (get_or bs 2 0) (get_or bs 3 0) k
+
+-- over the words of the lists s and k
+pub round_is : (s k r : List ℕ) → ByColumns MixesTo s k r → unpacked r ≡ full_round (unpacked s) (unpacked k)
+unfolding full_round add_round_key mix_columns shift_rows sub_bytes
+round_is s k r h = bytes4 h.first (bytes4 h.second (bytes4 h.third (bytes4 h.fourth refl)))
+
+pub last_is : (s k r : List ℕ) → ByColumns EndsIn s k r → unpacked r ≡ last_round (unpacked s) (unpacked k)
 unfolding last_round add_round_key shift_rows sub_bytes
-last_is s k hp hq hr ht = bytes4 hp (bytes4 hq (bytes4 hr (bytes4 ht refl)))
+last_is s k r h = bytes4 h.first (bytes4 h.second (bytes4 h.third (bytes4 h.fourth refl)))
 
 -- the bytes of the xor of two words
 pub xor_bytes : (w v : ℕ) {a b c d e f g h : ℕ} → Bytes w a b c d → Bytes v e f g h → Bytes (bit_xor w v) (bit_xor a e) (bit_xor b f) (bit_xor c g) (bit_xor d h)
@@ -143,3 +144,27 @@ pub unpacked_own : (bs : List ℕ) → length bs ≡ 16 → ((i : ℕ) → get_o
 unpacked_own bs e h =
     load_is bs e (joined_bytes _ _ _ _ (h 0) (h 1) (h 2) (h 3)) (joined_bytes _ _ _ _ (h 4) (h 5) (h 6) (h 7))
     (joined_bytes _ _ _ _ (h 8) (h 9) (h 10) (h 11)) (joined_bytes _ _ _ _ (h 12) (h 13) (h 14) (h 15))
+
+-- the word of each four bytes, as `as_chunks` cuts a block
+abbrev pub column_at : List (List ℕ) → ℕ → ℕ
+column_at cs i = let c = get_or cs i [] in word (get_or c 0 0) (get_or c 1 0) (get_or c 2 0) (get_or c 3 0)
+
+-- the first four bytes of ys, which are those of xs from the place k on
+word_cut : (xs ys : List ℕ) (k : ℕ) → ((j : ℕ) → get_or ys j 0 ≡ get_or xs (k + j) 0)
+    → word (get_or (take 4 ys) 0 0) (get_or (take 4 ys) 1 0) (get_or (take 4 ys) 2 0) (get_or (take 4 ys) 3 0)
+    ≡ word (get_or xs (k + 0) 0) (get_or xs (k + 1) 0) (get_or xs (k + 2) 0) (get_or xs (k + 3) 0)
+word_cut xs ys k e =
+    let p : (j : ℕ) → j < 4 → get_or (take 4 ys) j 0 ≡ get_or xs (k + j) 0 = λ j h. get_or-take 4 ys j 0 h ∙ e j in
+    λ i. word (p 0 (lit< tt) i) (p 1 (lit< tt) i) (p 2 (lit< tt) i) (p 3 (lit< tt) i)
+
+cut_on : (xs ys : List ℕ) (k m : ℕ) → k + 4 ≡ m → ((j : ℕ) → get_or ys j 0 ≡ get_or xs (k + j) 0) → (j : ℕ) → get_or (drop 4 ys) j 0 ≡ get_or xs (m + j) 0
+cut_on xs ys k m e h j = get_or-drop 4 ys j 0 ∙ h (4 + j) ∙ ap (λ (i : ℕ). get_or xs i 0) (let f : k + (4 + j) ≡ m + j = omega arith in f)
+
+pub columns_are : (xs : List ℕ) (cs : List (List ℕ)) → cs ≡ first_chunks 4 4 xs → map (column_at cs) (range_with_len 0 4) ≡ packed xs
+columns_are xs cs e =
+    let p : (j : ℕ) → get_or xs j 0 ≡ get_or xs (0 + j) 0 = λ j. ap (λ (i : ℕ). get_or xs i 0) (let f : j ≡ 0 + j = omega arith in f) in
+    let q = cut_on xs xs 0 4 refl p in
+    let r = cut_on xs (drop 4 xs) 4 8 refl q in
+    let s = cut_on xs (drop 4 (drop 4 xs)) 8 12 refl r in
+    ap (λ (ds : List (List ℕ)). map (column_at ds) (range_with_len 0 4)) e
+    ∙ (λ i. word_cut xs xs 0 p i ∷ word_cut xs (drop 4 xs) 4 q i ∷ word_cut xs (drop 4 (drop 4 xs)) 8 r i ∷ word_cut xs (drop 4 (drop 4 (drop 4 xs))) 12 s i ∷ [])

@@ -1,7 +1,7 @@
 -- A state as four words of 32 bits, one for each column, its first row in the highest byte. The bytes of a word: top, second, third,
 -- low, Bytes; word and packed, words from bytes; unpacked, the bytes of four words; what the steps on words come to: Mixed, Last,
 -- Turned, full_round, last_round.
-use Rattle.std.specs.Prelude.{◌≡◌, ℕ, ◌+◌, ◌*◌, ◌/◌, ◌%◌, List, [], ◌∷◌, bit_xor, slice_index}
+use Rattle.std.specs.Prelude.{◌≡◌, ℕ, zero, suc, ◌+◌, ◌*◌, ◌/◌, ◌%◌, List, [], ◌∷◌, bit_xor, slice_index}
 use Rattle.aes.specs.Field.{xtime, sbox}
 use Rattle.aes.specs.Aes.{sub_bytes, shift_rows, mix_columns, add_round_key}
 
@@ -23,6 +23,11 @@ pub record Bytes (w a b c d : ℕ) : Type 0 where
   pub is_second : second w ≡ b
   pub is_third : third w ≡ c
   pub is_low : low w ≡ d
+
+-- and turned down by r rows, the lowest of them to the top
+abbrev pub TurnedDown : (r w a b c d : ℕ) → Type 0
+TurnedDown zero w a b c d = Bytes w a b c d
+TurnedDown (suc r) w a b c d = TurnedDown r w d a b c
 
 -- the word of four bytes
 abbrev pub word : ℕ → ℕ → ℕ → ℕ → ℕ
@@ -76,6 +81,17 @@ Mixed w a b c d k =
 -- w is the column of the bytes a, b, c, d, substituted and added to the word k
 abbrev pub Last : (w a b c d k : ℕ) → Type 0
 Last w a b c d k = Bytes w (bit_xor (sbox a) (top k)) (bit_xor (sbox b) (second k)) (bit_xor (sbox c) (third k)) (bit_xor (sbox d) (low k))
+
+-- one row of each of the words at four places
+abbrev pub diagonal : List ℕ → (i j k l : ℕ) → List ℕ
+diagonal s i j k l = top (slice_index s i) ∷ second (slice_index s j) ∷ third (slice_index s k) ∷ low (slice_index s l) ∷ []
+
+-- P makes the four words of r, each from one row of each of four words of s, moved on by one word each time, and a word of k
+pub record ByColumns (P : List ℕ → ℕ → ℕ → Type 0) (s k r : List ℕ) : Type 0 where
+  pub first : P (diagonal s 0 1 2 3) (slice_index k 0) (slice_index r 0)
+  pub second : P (diagonal s 1 2 3 0) (slice_index k 1) (slice_index r 1)
+  pub third : P (diagonal s 2 3 0 1) (slice_index k 2) (slice_index r 2)
+  pub fourth : P (diagonal s 3 0 1 2) (slice_index k 3) (slice_index r 3)
 
 -- w is the column v, turned up by one row, substituted, with the round constant c
 abbrev pub Turned : (w v c : ℕ) → Type 0

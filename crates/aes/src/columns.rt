@@ -1,9 +1,10 @@
 // A round on columns: substitution, rows and mixing by one table of words.
-ghost use Rattle.std.specs.Prelude.{◌≡◌, ◌+◌, ◌<◌, slice_index};
+ghost use Rattle.std.specs.Prelude.{◌≡◌, ◌<◌, [], ◌∷◌, slice_index};
 ghost use Rattle.aes.specs.Aes.{add_round_key};
-ghost use Rattle.aes.specs.Words.{Bytes, Mixed, Last, once, twice, thrice, top, second, third, low, unpacked, full_round, last_round};
+ghost use Rattle.aes.specs.Words.{ByColumns, TurnedDown, Mixed, Last, once, twice, thrice, top, second, third, low, unpacked, full_round, last_round};
 
 use crate::sbox::substitute;
+use std::array;
 
 // For each byte, what it gives to the rows of its mixed column when it stands in the first row: double, once, once, triple of
 // what it is substituted by.
@@ -42,86 +43,73 @@ const MIXED: [u32; 256] = [
     0x824141c3, 0x299999b0, 0x5a2d2d77, 0x1e0f0f11, 0x7bb0b0cb, 0xa85454fc, 0x6dbbbbd6, 0x2c16163a,
 ];
 
-// What a byte in row 0 gives to the four rows of its mixed column, and so for rows 1 to 3.
-fn from_row0(x: u8) -> u32
-    ensures { Bytes result (twice x) (once x) (once x) (thrice x) }
+// What a byte gives to the four rows of its mixed column when it stands in the row ROW.
+#[tactic(auto, using(crate::proofs::MixTable::row_is))]
+fn from_row<const ROW: u32>(x: u8) -> u32
+    requires { ROW < 4 }
+    ensures { TurnedDown ROW result (twice x) (once x) (once x) (thrice x) }
 {
-    MIXED[x as usize]
+    MIXED[x as usize].rotate_right(8 * ROW)
 }
 
-fn from_row1(x: u8) -> u32
-    ensures { Bytes result (thrice x) (twice x) (once x) (once x) }
-{
-    MIXED[x as usize].rotate_right(8)
-}
-
-fn from_row2(x: u8) -> u32
-    ensures { Bytes result (once x) (thrice x) (twice x) (once x) }
-{
-    MIXED[x as usize].rotate_right(16)
-}
-
-fn from_row3(x: u8) -> u32
-    ensures { Bytes result (once x) (once x) (thrice x) (twice x) }
-{
-    MIXED[x as usize].rotate_right(24)
-}
-
-// A column of the next state, from the four columns that its rows come from and its column of the round key.
-fn column(a: u32, b: u32, c: u32, d: u32, k: u32) -> u32
-    ensures { Mixed result (top a) (second b) (third c) (low d) k }
+// The bytes that moving the rows puts into one column: one row from each of four columns.
+fn diagonal(a: u32, b: u32, c: u32, d: u32) -> [u8; 4]
+    ensures { result ≡ top a ∷ second b ∷ third c ∷ low d ∷ [] }
 {
     let [x, _, _, _] = a.to_be_bytes();
     let [_, y, _, _] = b.to_be_bytes();
     let [_, _, z, _] = c.to_be_bytes();
     let [_, _, _, w] = d.to_be_bytes();
-    (((from_row0(x) ^ from_row1(y)) ^ from_row2(z)) ^ from_row3(w)) ^ k
+    [x, y, z, w]
 }
 
-// A round: a column of the next state has its rows from four columns.
-pub(crate) fn round(s: &[u32; 4], k: &[u32; 4]) -> [u32; 4]
-    ensures { unpacked result ≡ full_round (unpacked s.now) (unpacked k.now) }
+// A column of the next state, from its bytes before they are substituted and its column of the round key.
+fn mixed_column(bytes: [u8; 4], k: u32) -> u32
+    ensures { Mixed result (slice_index bytes 0) (slice_index bytes 1) (slice_index bytes 2) (slice_index bytes 3) k }
+{
+    let [x, y, z, w] = bytes;
+    (((from_row::<0>(x) ^ from_row::<1>(y)) ^ from_row::<2>(z)) ^ from_row::<3>(w)) ^ k
+}
+
+// A column of the last state, which is not mixed.
+fn last_column(bytes: [u8; 4], k: u32) -> u32
+    ensures { Last result (slice_index bytes 0) (slice_index bytes 1) (slice_index bytes 2) (slice_index bytes 3) k }
+{
+    let [x, y, z, w] = bytes;
+    u32::from_be_bytes([substitute(x), substitute(y), substitute(z), substitute(w)]) ^ k
+}
+
+// The next state, by a map that makes a column of its bytes and its column of the round key.
+fn columns<F: Fn([u8; 4], u32) -> u32>(column: F, s: &[u32; 4], k: &[u32; 4]) -> [u32; 4]
+    requires { F.IsAlwaysCallable column }
+    ensures { ByColumns (F.post column) s.now k.now result }
 {
     let [a, b, c, d] = *s;
     let [e, f, g, h] = *k;
     [
-        column(a, b, c, d, e),
-        column(b, c, d, a, f),
-        column(c, d, a, b, g),
-        column(d, a, b, c, h),
+        column(diagonal(a, b, c, d), e),
+        column(diagonal(b, c, d, a), f),
+        column(diagonal(c, d, a, b), g),
+        column(diagonal(d, a, b, c), h),
     ]
 }
 
-// A column of the last state, which is not mixed.
-fn last_column(a: u32, b: u32, c: u32, d: u32, k: u32) -> u32
-    ensures { Last result (top a) (second b) (third c) (low d) k }
+// A round.
+pub(crate) fn round(s: &[u32; 4], k: &[u32; 4]) -> [u32; 4]
+    ensures { unpacked result ≡ full_round (unpacked s.now) (unpacked k.now) }
 {
-    let [x, _, _, _] = a.to_be_bytes();
-    let [_, y, _, _] = b.to_be_bytes();
-    let [_, _, z, _] = c.to_be_bytes();
-    let [_, _, _, w] = d.to_be_bytes();
-    let row0 = substitute(x);
-    let row1 = substitute(y);
-    let row2 = substitute(z);
-    let row3 = substitute(w);
-    u32::from_be_bytes([row0, row1, row2, row3]) ^ k
+    columns(mixed_column, s, k)
 }
 
 // The last round.
 pub(crate) fn last_round(s: &[u32; 4], k: &[u32; 4]) -> [u32; 4]
     ensures { unpacked result ≡ last_round (unpacked s.now) (unpacked k.now) }
 {
-    let [a, b, c, d] = *s;
-    let [e, f, g, h] = *k;
-    [
-        last_column(a, b, c, d, e),
-        last_column(b, c, d, a, f),
-        last_column(c, d, a, b, g),
-        last_column(d, a, b, c, h),
-    ]
+    columns(last_column, s, k)
 }
 
 // Adds a round key.
+#[tactic(auto, using(crate::proofs::Xors::add_is))]
 pub(crate) fn add_key(s: &[u32; 4], k: &[u32; 4]) -> [u32; 4]
     ensures { unpacked result ≡ add_round_key (unpacked s.now) (unpacked k.now) }
 {
@@ -130,27 +118,16 @@ pub(crate) fn add_key(s: &[u32; 4], k: &[u32; 4]) -> [u32; 4]
     [a ^ e, b ^ f, c ^ g, d ^ h]
 }
 
-// The column that starts at a place of a block.
-fn load_column(block: &[u8; 16], i: usize) -> u32
-    requires { i + 3 < 16 }
-    ensures { Bytes result (slice_index block.now i) (slice_index block.now (i + 1)) (slice_index block.now (i + 2)) (slice_index block.now (i + 3)) }
-{
-    u32::from_be_bytes([block[i], block[i + 1], block[i + 2], block[i + 3]])
-}
-
 // A block as its columns.
 pub(crate) fn load(block: &[u8; 16]) -> [u32; 4]
     ensures { unpacked result ≡ block.now }
 {
-    [
-        load_column(block, 0),
-        load_column(block, 4),
-        load_column(block, 8),
-        load_column(block, 12),
-    ]
+    let (columns, _) = block.as_chunks::<4>();
+    array::from_fn(|i| u32::from_be_bytes(columns[i]))
 }
 
 // Columns as a block.
+// Sixteen names: a row of four rows of bytes is a slice of sixteen by a method, and no array.
 pub(crate) fn store(s: &[u32; 4]) -> [u8; 16]
     ensures { result ≡ unpacked s.now }
 {

@@ -22,11 +22,11 @@ impl Aes128 {
     {
         let mut k = load(key);
         let mut constant = 1;
-        let mut round_keys = [k; 11];
-        for n in 0..10 {
+        let mut round_keys = [[0; 4]; 11];
+        for round_key in round_keys.iter_mut() {
+            *round_key = k;
             k = next_key(&k, constant);
             constant = times_x(constant);
-            round_keys[n + 1] = k;
         }
         Aes128 {
             key: *key,
@@ -35,18 +35,20 @@ impl Aes128 {
     }
 
     // One block under the key.
+    #[tactic(auto, using(crate::proofs::Rounding::first_step, crate::proofs::Rounding::round_step))]
     pub fn encrypt(&self, block: &[u8; 16]) -> [u8; 16]
         ensures { result ≡ aes (key_of self.now) block.now }
     {
         let mut s = add_key(&load(block), &self.round_keys[0]);
-        for n in 0..9 {
-            s = round(&s, &self.round_keys[n + 1]);
+        for round_key in &self.round_keys[1..10] {
+            s = round(&s, round_key);
         }
         store(&last_round(&s, &self.round_keys[10]))
     }
 }
 
 // The definitions come to values that the standard works out.
+#[tactic(auto, using(crate::proofs::Examples::worked_out))]
 pub fn worked_examples() -> u8
     ensures { WorkedOut }
 {

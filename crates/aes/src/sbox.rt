@@ -23,6 +23,7 @@ const SBOX: [u8; 256] = [
 ];
 
 // What a byte is substituted by: its inverse in the field, through the affine map.
+#[tactic(auto, using(crate::proofs::SboxTable::table_is, crate::proofs::SboxTable::table_ruled))]
 pub fn substitute(x: u8) -> u8
     ensures value { result ≡ sbox x }
     ensures rule { Substituted x result }
@@ -31,6 +32,7 @@ pub fn substitute(x: u8) -> u8
 }
 
 // The rule of the S-box holds of all 256 bytes.
+#[tactic(auto, using(crate::proofs::SboxTable::sbox_law))]
 pub fn sbox_law() -> u8
     ensures { SboxLaw }
 {

@@ -7,6 +7,8 @@ ghost use Rattle.aes.specs.Words.{Turned, unpacked};
 use crate::sbox::substitute;
 
 // The product with x in the field of the bytes.
+// Products with x of blocks stand in CMAC and GHASH: on 128 bits, modulo another polynomial, and in GHASH from the other end.
+#[tactic(auto, unfolding(crate::specs::Field::xtime))]
 pub(crate) fn times_x(a: u8) -> u8
     ensures { result ≡ xtime a }
 {
@@ -26,6 +28,7 @@ fn turned(column: u32, constant: u8) -> u32
 }
 
 // The round key after `k`.
+#[tactic(auto, using(crate::proofs::Xors::next_is))]
 pub(crate) fn next_key(k: &[u32; 4], constant: u8) -> [u32; 4]
     ensures { unpacked result ≡ next_key constant (unpacked k.now) }
 {

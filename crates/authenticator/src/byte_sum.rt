@@ -11,18 +11,18 @@ pub struct ByteSum;
 
 // The bytes of a message that count, its first 64.
 pub fn counting_part(message: &[u8]) -> &[u8]
-    ensures { (result.now ≡ take 64 message.now) × (length result.now ≤ 64) }
+    ensures part { result.now ≡ take 64 message.now }
+    ensures bound { length result.now ≤ 64 }
 {
-    if message.len() > 64 {
-        return &message[..64];
-    }
-    message
+    &message[..message.len().min(64)]
 }
 
 // The sum of a few bytes.
+// A loop over the elements, and no iterator's sum: the project requires this form of the byte sum.
 fn sum_of(bytes: &[u8]) -> u32
     requires { length bytes.now ≤ 64 }
-    ensures { (result ≡ sum bytes.now) × (result ≤ 255 * length bytes.now) }
+    ensures value { result ≡ sum bytes.now }
+    ensures bound { result ≤ 255 * length bytes.now }
 {
     let mut total = 0;
     for b in bytes {
@@ -40,6 +40,7 @@ impl Authenticator for ByteSum {
 
     ghost bytes = { byte_sum_bytes };
 
+    #[tactic(auto, unfolding(crate::specs::Sum::byte_sum))]
     fn tag(&self, nonce: &[u8; 12], message: &[u8]) -> [u8; 16] {
         let [a, b, c, d] = (sum_of(nonce) + sum_of(counting_part(message))).to_be_bytes();
         [a, b, c, d, 0, 0, 0, 0, 0, 0, 0, 0, 0, 0, 0, 0]

@@ -6,6 +6,7 @@ ghost use Rattle.aes.specs.Keyed.{key_of};
 ghost use Rattle.chaining.specs.Blocks.{aes_block, block_of, blocks_of, chained};
 
 use aes::Aes128;
+use std::array;
 
 // A map on blocks.
 pub trait BlockMap {
@@ -28,27 +29,21 @@ impl BlockMap for Aes128 {
 pub fn byte_at(bytes: &[u8], i: usize) -> u8
     ensures { result ≡ slice_index bytes.now i }
 {
-    if i < bytes.len() { bytes[i] } else { 0 }
+    bytes.get(i).copied().unwrap_or(0)
 }
 
 // The first sixteen bytes as a block, with zeros where there are fewer.
 pub fn block_of(bytes: &[u8]) -> u128
     ensures { result ≡ block_of bytes.now }
 {
-    let mut block = [0; 16];
-    for i in 0..16 {
-        block[i] = byte_at(bytes, i);
-    }
-    u128::from_be_bytes(block)
+    u128::from_be_bytes(array::from_fn(|i| byte_at(bytes, i)))
 }
 
 // Goes through the blocks of a row, the last one filled up with zeros: each is added to what came of those before it, and mapped.
 pub fn chain<M: BlockMap>(map: &M, start: u128, bytes: &[u8]) -> u128
     ensures { result ≡ chained (M.mapped map.now) start (blocks_of bytes.now) }
 {
-    let mut y = start;
-    for k in 0..bytes.len().div_ceil(16) {
-        y = map.apply(y ^ block_of(&bytes[16 * k..]));
-    }
-    y
+    bytes
+        .chunks(16)
+        .fold(start, |y, block| map.apply(y ^ block_of(block)))
 }

@@ -16,10 +16,7 @@ pub fn low_bits(width: Width, n: u64) -> u64
     ensures value { result ≡ n % 2 ^ bits width }
     ensures bound { result < 2 ^ bits width }
 {
-    match width {
-        Width::First => n % (1 << 57),
-        Width::Further => n % (1 << 59),
-    }
+    n % (1 << width.bits())
 }
 
 impl Cipher for Clear {

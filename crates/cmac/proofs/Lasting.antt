@@ -1,5 +1,5 @@
 -- The last block with its subkey, and the tag, over plain values.
-use Rattle.std.proofs.Common.{◌≡◌, ℕ, ◌+◌, ◌-◌, Bool, false, cond, eqb, List, [], ◌∷◌, ◌++◌, length, take, drop, sym, ap, ◌∙◌, ap₂, arith, length-drop}
+use Rattle.std.proofs.Common.{◌≡◌, ℕ, ◌-◌, Bool, false, cond, eqb, List, [], ◌∷◌, ◌++◌, length, take, drop, sym, ap, ◌∙◌, ap₂, arith, length-drop}
 use lib.Bits.{bit_xor}
 use Rattle.std.proofs.lemmas.List.{take_all}
 use Rattle.spelling.specs.Spelling.{bytes_of}
@@ -31,9 +31,3 @@ tag_is key m n y last z r en ey el ez er =
     let rest : take (length m - n) (drop n m) ≡ drop n m = take_all (length m - n) (drop n m) (simp length-drop (omega arith)) in
     er ∙ ap (bytes_of 16) (ez ∙ ap₂ (λ (a b : ℕ). aes_block key (bit_xor a b)) ey (el ∙ ap (last_block key) rest)
     ∙ ap (λ (k : ℕ). aes_block key (bit_xor (chained (aes_block key) 0 (blocks_of (take k m))) (last_block key (drop k m)))) en)
-
--- a row that begins with the nonce and then has the message
-pub laid_out : (nonce part one two : List ℕ) → length nonce ≡ 12 → take (0 + length nonce) one ≡ nonce
-    → take (12 + length part) two ≡ take 12 one ++ part → take (12 + length part) two ≡ nonce ++ part
-laid_out nonce part one two n e f =
-    f ∙ ap (λ (xs : List ℕ). xs ++ part) (ap (λ (k : ℕ). take k one) (let h : 12 ≡ 0 + length nonce = omega arith in h) ∙ e)

@@ -1,7 +1,7 @@
 // CMAC of SP 800-38B over AES-128.
 #![tactic(auto)]
 
-ghost use Rattle.std.specs.Prelude.{◌≡◌, ◌+◌, ◌≤◌, [], ◌∷◌, ◌++◌, length, take, slice_index};
+ghost use Rattle.std.specs.Prelude.{◌≡◌, [], ◌∷◌, ◌++◌, slice_index};
 ghost use Rattle.aes.specs.Keyed.{key_of};
 ghost use Rattle.chaining.specs.Blocks.{block_of};
 ghost use Rattle.cmac.specs.Cmac.{doubled, last_block, cmac};
@@ -13,13 +13,16 @@ pub mod state;
 pub mod subkeys;
 
 use aes::Aes128;
+use arrayvec::ArrayVec;
 use authenticator::Authenticator;
 use authenticator::byte_sum::counting_part;
 use chaining::{BlockMap, block_of, byte_at, chain};
 pub use state::Cmac;
+use std::array;
 use subkeys::Subkeys;
 
-// A block shifted left by one bit; a bit that falls out adds 0x87.
+// A block shifted left by one bit; a bit that falls out adds 0x87. AES and GHASH have products in other fields.
+#[tactic(auto, unfolding(crate::specs::Cmac::doubled))]
 fn double(n: u128) -> u128
     ensures { result ≡ doubled n }
 {
@@ -27,6 +30,7 @@ fn double(n: u128) -> u128
 }
 
 // Both subkeys come from the block of zeros under the key.
+#[tactic(auto, unfolding(crate::specs::Cmac::first_subkey, crate::specs::Cmac::second_subkey))]
 fn subkeys_of(aes: &Aes128) -> Subkeys
     ensures { result ≡ subkeys_of (key_of aes.now) }
 {
@@ -40,33 +44,22 @@ fn filled_byte(rest: &[u8], i: usize) -> u8
     ensures { result ≡ slice_index (rest.now ++ (128 ∷ [])) i }
 {
     if i == rest.len() {
-        return 0x80;
+        0x80
+    } else {
+        byte_at(rest, i)
     }
-    byte_at(rest, i)
 }
 
 // Fewer than sixteen bytes as a block, filled up by one set bit and zeros.
 fn filled_block(rest: &[u8]) -> u128
     ensures { result ≡ block_of (rest.now ++ (128 ∷ [])) }
 {
-    let mut block = [0; 16];
-    for i in 0..16 {
-        block[i] = filled_byte(rest, i);
-    }
-    block_of(&block)
-}
-
-// Writes bytes into a row, from a place on.
-fn put(row: &mut [u8; 76], at: usize, bytes: &[u8])
-    requires { at + length bytes.now ≤ 76 }
-    ensures { take (at + length bytes.now) row.new ≡ take at row.old ++ bytes.now }
-{
-    let end = at + bytes.len();
-    row[at..end].copy_from_slice(bytes);
+    u128::from_be_bytes(array::from_fn(|i| filled_byte(rest, i)))
 }
 
 impl Cmac {
     // The last block with its subkey.
+    #[tactic(auto, using(crate::proofs::Lasting::whole_last, crate::proofs::Lasting::short_last))]
     fn last_block(&self, rest: &[u8]) -> u128
         ensures { result ≡ last_block (mac_key self.now) rest.now }
     {
@@ -77,6 +70,7 @@ impl Cmac {
     }
 
     // The tag of a message of any length.
+    #[tactic(auto, using(crate::proofs::Lasting::tag_is))]
     pub fn mac(&self, message: &[u8]) -> [u8; 16]
         ensures { result ≡ cmac (mac_key self.now) message.now }
     {
@@ -97,14 +91,13 @@ impl Authenticator for Cmac {
     ghost bytes = { cmac_bytes };
 
     fn tag(&self, nonce: &[u8; 12], message: &[u8]) -> [u8; 16] {
-        let part = counting_part(message);
-        let end = 12 + part.len();
-        let mut row = [0; 76];
-        put(&mut row, 0, nonce);
-        put(&mut row, 12, part);
-        self.mac(&row[..end])
+        let mut row = ArrayVec::<u8, 76>::new();
+        row.try_extend_from_slice(nonce).unwrap();
+        row.try_extend_from_slice(counting_part(message)).unwrap();
+        self.mac(&row)
     }
 
+    #[tactic(auto, using(crate::proofs::Making::made))]
     fn keyed(key: &[u8; 16], _meter: u64) -> Cmac {
         let aes = Aes128::new(key);
         let subkeys = subkeys_of(&aes);

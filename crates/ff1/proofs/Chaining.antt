@@ -13,11 +13,11 @@ use Rattle.spelling.specs.Spelling.{bytes_of}
 use Rattle.spelling.proofs.Apart.{length_bytes}
 use Rattle.chaining.specs.Blocks.{aes_block, block_of, block_at, blocks_of, chained}
 use Rattle.chaining.proofs.Chaining.{chain_last}
+use Rattle.chaining.proofs.Numbers.{power_256, same_map, same_block}
 use Rattle.ff1.specs.Ff1.{half_bytes, head_block, filling, round_bytes, prf, drawn_bytes, round_number}
 use Rattle.ff1.specs.Network.{masked}
 use Rattle.ff1.specs.Preparing.{leading, mask_of}
-use Rattle.ff1.proofs.Rounding.{power_256}
-use Rattle.ff1.proofs.Numbers.{number_append, number_zeros, number_nothing, number_tail, same_map, same_block, block_exact, get_or_filled, get_d_front, drop-front}
+use Rattle.ff1.proofs.Numbers.{number_append, number_zeros, number_nothing, number_tail, block_exact, get_or_filled, get_d_front, drop-front}
 
 -- ---- a row that begins with a whole block
 

@@ -1,5 +1,5 @@
 -- The network over what was prepared is FF1: for any radix, length and tweak that there is room for, and at the two widths of a cipher.
-use Rattle.std.proofs.Common.{◌≡◌, ℕ, ◌-◌, ◌*◌, ◌/◌, ◌%◌, ◌^◌, ◌<◌, ◌≤◌, true, cond, leb, List, length, Some, None, sym, refl, ap, ◌∙◌, subst, ap₂, mod-lt, arith, lit≤}
+use Rattle.std.proofs.Common.{◌≡◌, ℕ, ◌-◌, ◌*◌, ◌/◌, ◌%◌, ◌^◌, ◌<◌, ◌≤◌, true, cond, leb, List, length, Some, None, sym, refl, ap, ◌∙◌, subst, ap₂, arith, lit≤}
 use mathlib.Core.Path.{Cosingl, contract'}
 use native.Mathlib.Nat.{one-le-pow}
 use Rattle.aes.specs.Keyed.{aes_for, key_of}
@@ -9,12 +9,13 @@ use Rattle.cipher.specs.declared.width.Width.{Width}
 use Rattle.cipher.specs.declared.width.Width.TheVariants.{First, Further}
 use Rattle.feistel.specs.Feistel.{run, unrun, alternate, halves, whole, forward, backward}
 use Rattle.feistel.proofs.Undoing.{parts}
-use Rattle.ff1.specs.Ff1.{half_bytes, ff1, ff1_back}
-use Rattle.ff1.specs.Sizes.{allowed, room_for, Sized}
+use Rattle.ff1.specs.Ff1.{byte_count, half_bytes, ff1, ff1_back}
+use Rattle.ff1.specs.Sizes.{sizes_of, allowed, room_for, Sized}
 use Rattle.ff1.specs.Network.{through, back_through}
 use Rattle.ff1.specs.Preparing.{rounds_of, prepared_for}
 use Rattle.ff1.specs.Ciphering.{ff1_for}
 use Rattle.ff1.specs.declared.rounds.Rounds.{Rounds}
+use Rattle.ff1.specs.declared.rounds.Sizes.{Sizes}
 use Rattle.ff1.specs.declared.rounds.Prepared.{Prepared}
 use Rattle.ff1.specs.declared.state.Ff1.{Ff1}
 use Rattle.ff1.proofs.Powers.{passed, both_true, allowed_means, sized}
@@ -53,29 +54,13 @@ ready r n key tweak R h l e =
       some = one-le-pow n r (omega arith);
     }
 
--- what the rounds make of a number, counted modulo the size s
-module _ (r n : ℕ) (key tweak : List ℕ) (R : Rounds) (h : Ready r n key tweak R) (s y : ℕ) (e : s ≡ R.sizes.left * R.sizes.right) where
-  pub some_size : 0 < s
-  some_size = omega (arith, h.product, h.some)
-
-  pub below-size : y % s < R.sizes.left * R.sizes.right
-  below-size = subst (λ (k : ℕ). y % s < k) e (mod-lt y some_size)
-
-  pub enciphered : (z : ℕ) → z ≡ through key R (y % s) → z ≡ ff1 r n key tweak (y % r ^ n)
-  enciphered z ez =
-      ez ∙ ap₂ (λ (Q : Rounds) (k : ℕ). through key Q (y % k)) h.is (e ∙ h.product) ∙ through_is r n key tweak (y % r ^ n) h.few
-
-  pub deciphered : (z : ℕ) → z ≡ back_through key R (y % s) → z ≡ ff1_back r n key tweak (y % r ^ n)
-  deciphered z ez =
-      ez ∙ ap₂ (λ (Q : Rounds) (k : ℕ). back_through key Q (y % k)) h.is (e ∙ h.product) ∙ back_is r n key tweak (y % r ^ n) h.few
-
--- and of a number that was cut to its low bits before
+-- what the rounds make of the low part of a number
 module _ (r n : ℕ) (key tweak : List ℕ) (R : Rounds) (h : Ready r n key tweak R) (y x : ℕ) (e : x ≡ y % r ^ n) where
-  pub enciphered_width : (z : ℕ) → z ≡ through key R x → z ≡ ff1 r n key tweak (y % r ^ n)
-  enciphered_width z ez = ez ∙ ap₂ (through key) h.is e ∙ through_is r n key tweak (y % r ^ n) h.few
+  pub enciphered : (z : ℕ) → z ≡ through key R x → z ≡ ff1 r n key tweak (y % r ^ n)
+  enciphered z ez = ez ∙ ap₂ (through key) h.is e ∙ through_is r n key tweak (y % r ^ n) h.few
 
-  pub deciphered_width : (z : ℕ) → z ≡ back_through key R x → z ≡ ff1_back r n key tweak (y % r ^ n)
-  deciphered_width z ez = ez ∙ ap₂ (back_through key) h.is e ∙ back_is r n key tweak (y % r ^ n) h.few
+  pub deciphered : (z : ℕ) → z ≡ back_through key R x → z ≡ ff1_back r n key tweak (y % r ^ n)
+  deciphered z ez = ez ∙ ap₂ (back_through key) h.is e ∙ back_is r n key tweak (y % r ^ n) h.few
 
 -- a test that was passed for radix, length and tweak
 pub ready_there : (r n : ℕ) (key tweak : List ℕ) (R : Rounds)
@@ -97,6 +82,12 @@ width_ready w key tweak R e = ready 2 (bits w) key tweak R (lit≤ tt) (width_fi
 
 pub width_few : (w : Width) → half_bytes 2 (bits w) ≤ 8
 width_few w = (sized 2 (bits w) (lit≤ tt) (width_fits w)).few
+
+-- the sizes of a width, where b is its count of bits
+pub binary_is : (w : Width) (b : ℕ) → b ≡ bits w → ◌≡◌ {A = Sizes} (record { left = 1 * 2 ^ (b / 2) % 2 ^ 64; right = 1 * 2 ^ (b - b / 2) % 2 ^ 64; bytes = 4 }) (sizes_of 2 (bits w))
+unfolding half_bytes byte_count
+binary_is First b e = ap (λ (k : ℕ). record { left = 1 * 2 ^ (k / 2) % 2 ^ 64; right = 1 * 2 ^ (k - k / 2) % 2 ^ 64; bytes = 4 }) e
+binary_is Further b e = ap (λ (k : ℕ). record { left = 1 * 2 ^ (k / 2) % 2 ^ 64; right = 1 * 2 ^ (k - k / 2) % 2 ^ 64; bytes = 4 }) e
 
 -- a value with a key, a MeterID and what is prepared for them is the one that they make
 pub made : (key : List ℕ) (meter : ℕ) (a : Aes128) (p : Prepared) (e : p ≡ prepared_for (key_of a) meter) → a ≡ aes_for key

@@ -1,12 +1,11 @@
 -- Rows of bytes as numbers: rows put together, filled up with zeros, or cut to a block.
-use Rattle.std.proofs.Common.{◌≡◌, ℕ, zero, suc, ◌+◌, ◌-◌, ◌*◌, ◌%◌, ◌^◌, ◌<◌, ◌≤◌, List, [], ◌∷◌, ◌++◌, map, length, get_or, drop, replicate, sym, refl, ap, ◌∙◌, le_of_suc-le-suc, not-suc-le-zero, mul_assoc, add-mul, arith}
+use Rattle.std.proofs.Common.{◌≡◌, ℕ, zero, suc, ◌+◌, ◌-◌, ◌*◌, ◌%◌, ◌^◌, ◌<◌, ◌≤◌, List, [], ◌∷◌, ◌++◌, length, get_or, drop, replicate, sym, refl, ap, ◌∙◌, le_of_suc-le-suc, not-suc-le-zero, mul_assoc, add-mul, arith}
 use native.Mathlib.Nat.{pow-succ'}
 use lib.ListN.{length-replicate}
-use Rattle.std.specs.List.{range_with_len}
 use Rattle.std.specs.Int.Digits.{number_from_digits, number_from_digits_after}
 use Rattle.std.proofs.lemmas.Int.Digits.{number_after_append}
 use Rattle.std.proofs.lemmas.List.{drop-append-le, drop-replicate}
-use Rattle.std.proofs.lemmas.List.FromFn.{fill_by_all, length-map-range_with_len, get_or-map-range_with_len}
+use Rattle.std.proofs.lemmas.List.FromFn.{fill_by_all}
 use Rattle.spelling.specs.Spelling.{bytes_of}
 use Rattle.spelling.proofs.Apart.{bytes_after}
 use Rattle.chaining.specs.Blocks.{block_of}
@@ -41,17 +40,6 @@ number_tail b i x =
     ∙ bytes_after b (number_from_digits 256 (bytes_of 1 i)) x ∙ ap (λ (k : ℕ). k * 256 ^ b + x % 256 ^ b) (let e : 0 * 256 + i % 256 ≡ i % 256 = omega arith in e)
 
 -- ---- blocks
-
--- lists by places
-pub same_map : {X : Type 0} (f g : ℕ → X) (d : X) (a n : ℕ) → ((k : ℕ) → k < n → f (a + k) ≡ g k) → map f (range_with_len a n) ≡ map g (range_with_len 0 n)
-same_map f g d a n h =
-    fill_by_all g (map f (range_with_len a n)) n d (length-map-range_with_len f a n) (λ k l. get_or-map-range_with_len f a n k (a + k) d l refl ∙ h k l)
-
-pub same_block : (xs ys : List ℕ) → ((j : ℕ) → j < 16 → get_or xs j 0 ≡ get_or ys j 0) → block_of xs ≡ block_of ys
-unfolding block_of
-same_block xs ys h =
-    ap (number_from_digits 256) (same_map (λ i. get_or xs i 0) (λ i. get_or ys i 0) 0 0 16
-    (λ k l. ap (λ (m : ℕ). get_or xs m 0) (let e : 0 + k ≡ k = omega arith in e) ∙ h k l))
 
 -- a block of sixteen bytes is their number
 pub block_exact : (xs : List ℕ) → length xs ≡ 16 → block_of xs ≡ number_from_digits 256 xs

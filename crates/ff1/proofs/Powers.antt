@@ -1,22 +1,8 @@
 -- Powers of a radix with a bound, and the sizes of halves.
-use Rattle.std.proofs.Common.{◌≡◌, ℕ, zero, suc, ◌+◌, ◌-◌, ◌*◌, ◌/◌, ◌^◌, ◌<◌, ◌≤◌, Bool, true, false, cond, ◌&&◌, leb, Some, None, sym, refl, ap, ◌∙◌, subst, ap₂, div-lt_iff_lt-mul, pow-suc, le-div_iff_mul-le, add-one, arith, le-leb, leb-true}
+use Rattle.std.proofs.Common.{◌≡◌, ℕ, zero, suc, ◌+◌, ◌-◌, ◌*◌, ◌/◌, ◌^◌, ◌<◌, ◌≤◌, Bool, true, false, cond, ◌&&◌, leb, Option, Some, None, IsSome, IfSome, MatchOption, ◌↔◌, sym, refl, ap, ◌∙◌, subst, ap₂, div-lt_iff_lt-mul, pow-suc, arith, le-leb, leb-false, leb-true}
 use native.Mathlib.Nat.{pow-le-pow_right, one-le-pow}
-use borrow.Author.Tests.{lt-leb}
 use Rattle.ff1.specs.Ff1.{byte_count, half_bytes}
 use Rattle.ff1.specs.Sizes.{sizes_of, allowed, Sized}
-
--- one factor more keeps the bound exactly where the test says so
-pub more : (r p : ℕ) → 2 ≤ r → p ≤ 2 ^ 63 / r → p * r ≤ 2 ^ 63
-more r p h l = (le-div_iff_mul-le (let z : 0 < r = omega arith in z)).0 l
-
-pub next_power : (r i p : ℕ) → p ≡ r ^ i → p * r ≡ r ^ (i + 1)
-next_power r i p e = ap (λ (n : ℕ). n * r) e ∙ sym (ap (λ (n : ℕ). r ^ n) (add-one i) ∙ pow-suc r i)
-
-pub too_large : (r n i p : ℕ) → 2 ≤ r → i < n → p ≡ r ^ i → 2 ^ 63 / r < p → leb (r ^ n) (2 ^ 63) ≡ false
-too_large r n i p h l e t =
-    let over : 2 ^ 63 < p * r = (div-lt_iff_lt-mul (let z : 0 < r = omega arith in z)).0 t in
-    let grows : r ^ (i + 1) ≤ r ^ n = pow-le-pow_right (let z : 0 < r = omega arith in z) (let z : i + 1 ≤ n = omega arith in z) in
-    lt-leb (r ^ n) (2 ^ 63) (omega (arith, next_power r i p e))
 
 -- what a test that was passed or failed tells
 pub passed : {X : Type 0} (b : Bool) (x y : X) → cond b (Some x) None ≡ Some y → (b ≡ true) × (x ≡ y)
@@ -59,22 +45,31 @@ unfolding byte_count
 count_zero zero = refl
 count_zero (suc k) = refl
 
-count_suc : (k n : ℕ) → 0 < n → byte_count (suc k) n ≡ byte_count k (n / 256) + 1
+-- one more than the logarithm of a number is its count of bytes
+count_log : (k m n : ℕ) → m < k → 256 ^ m ≤ n → n < 256 * 256 ^ m → byte_count k n ≡ m + 1
 unfolding byte_count
-count_suc k zero h = absurd (omega arith)
-count_suc k (suc n) h = sym (add-one (byte_count k (suc n / 256)))
+count_log zero m n h lo hi = absurd (omega arith)
+count_log (suc k) m zero h lo hi = absurd (omega (arith, one-le-pow m 256 (let z : 0 < 256 = omega arith in z)))
+count_log (suc k) zero (suc n) h lo hi =
+    let none : suc n / 256 ≡ 0 = omega arith in
+    ap suc (ap (byte_count k) none ∙ count_zero k)
+count_log (suc k) (suc m) (suc n) h lo hi =
+    let p : 256 ^ suc m ≡ 256 ^ m * 256 = pow-suc 256 m in
+    ap suc (count_log k m (suc n / 256) (omega arith) (omega (arith, p)) (omega (arith, p))) ∙ (omega arith)
 
-pub byte_step : (n count whole : ℕ) → 0 < n → count < 16 → count + byte_count (16 - count) n ≡ whole
-    → count + 1 + byte_count (16 - (count + 1)) (n / 256) ≡ whole
-byte_step n count whole h l e =
-    let f : 16 - count ≡ suc (16 - (count + 1)) = omega arith in
-    let g = ap (λ (k : ℕ). byte_count k n) f ∙ count_suc (16 - (count + 1)) n h in
-    omega (arith, e, g)
+log_below : (k n : ℕ) (b : Bool) → leb 8 k ≡ b → 256 ^ k ≤ n → n < 2 ^ 64 → k < 16
+log_below k n true e lo h =
+    let grows : 256 ^ 8 ≤ 256 ^ k = pow-le-pow_right (let z : 0 < 256 = omega arith in z) (leb-true 8 k e) in absurd (omega arith)
+log_below k n false e lo h = omega (arith, leb-false 8 k e)
 
-pub bytes_done : (n count whole : ℕ) → n ≡ 0 → count + byte_count (16 - count) n ≡ whole → count ≡ whole
-bytes_done n count whole z e =
-    let g = ap (byte_count (16 - count)) z ∙ count_zero (16 - count) in
-    omega (arith, e, g)
+-- where P says of a logarithm that r is one more
+pub log_count : (o : Option ℕ) (n r : ℕ) (P : ℕ → Type 0) → ((k : ℕ) → P k → r ≡ k + 1)
+    → (IsSome o ↔ ((0 < n) × (2 ≤ 256))) → IfSome o (λ k. 256 ^ k ≤ n) → IfSome o (λ k. n < 256 * 256 ^ k)
+    → MatchOption o (r ≡ 0) P → n < 2 ^ 64 → r ≡ byte_count 16 n
+log_count None zero r P f v lo hi e h = e ∙ sym (count_zero 16)
+log_count None (suc n) r P f v lo hi e h =
+    let some = v.1 (omega arith, omega arith) in absurd (let z : ◌≡◌ {A = ℕ} 0 1 = cc in omega arith)
+log_count (Some k) n r P f v lo hi e h = f k e ∙ sym (count_log 16 k n (log_below k n (leb 8 k) refl lo h) lo hi)
 
 pub eight_bytes : (n : ℕ) → n < 2 ^ 64 → byte_count 16 n ≤ 8
 eight_bytes n h = count_le 16 8 n (omega arith)

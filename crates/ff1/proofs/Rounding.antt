@@ -1,19 +1,11 @@
 -- One round number, and two rounds at a time, over plain values.
-use Rattle.std.proofs.Common.{◌≡◌, ℕ, zero, suc, ◌+◌, ◌-◌, ◌*◌, ◌/◌, ◌%◌, ◌^◌, ◌<◌, ◌≤◌, List, sym, refl, ap, ◌∙◌, subst, ap₂, mod-lt, mod-eq_of_lt, pow-suc, arith, pow-add, shl_exact}
+use Rattle.std.proofs.Common.{◌≡◌, ℕ, zero, suc, ◌+◌, ◌-◌, ◌*◌, ◌/◌, ◌%◌, ◌^◌, ◌<◌, ◌≤◌, List, sym, refl, ap, ◌∙◌, subst, ap₂, mod-eq_of_lt, arith, shl_exact}
 use lib.Bits.{bit_xor}
-use lib.Arith.{digits_lt}
-use Rattle.std.proofs.lemmas.Nat.{div_below}
 use Rattle.chaining.specs.Blocks.{aes_block}
-use Rattle.feistel.specs.Feistel.{alternate, round, unround, run, unrun, halves, whole}
+use Rattle.chaining.proofs.Numbers.{power_256}
+use Rattle.feistel.specs.Feistel.{alternate, round, unround, run, unrun}
 use Rattle.ff1.specs.Ff1.{drawn_bytes}
 use Rattle.ff1.specs.Network.{masked}
-
--- a power of 256 as one of 2
-pub power_256 : (k : ℕ) → 256 ^ k ≡ 2 ^ (8 * k)
-power_256 zero = refl
-power_256 (suc k) =
-    pow-suc 256 k ∙ ap (λ (n : ℕ). n * 256) (power_256 k) ∙ sym (pow-add 2 (8 * k) 8)
-    ∙ ap (λ (n : ℕ). 2 ^ n) (let e : 8 * k + 8 ≡ 8 * suc k = omega arith in e)
 
 pub round_is : (key : List ℕ) (mask b i x j y z : ℕ) → i < 10 → b ≤ 8 → x < 256 ^ b → j ≡ i → y ≡ x
     → z ≡ aes_block key (bit_xor mask (j * 2 ^ (8 * b) % 2 ^ 128 + y)) → z / 2 ^ (8 * (12 - (b + 3) / 4 * 4)) ≡ masked key mask b i x
@@ -70,16 +62,16 @@ ten_done m n F j s G e inv = subst (λ (k : ℕ). run (alternate m n) F (10 - 2 
 
 -- ---- and back
 
-pub two_less : (m n : ℕ) (F : ℕ → ℕ → ℕ) (k a b p q : ℕ) (s : ℕ × ℕ) → k < 5
-    → q ≡ (b + (n - F (2 * (4 - k) + 1) a % n)) % n → p ≡ (a + (m - F (2 * (4 - k)) q % m)) % m
-    → (a, b) ≡ unrun (alternate m n) F (2 * k) (10 - 2 * k) s
-    → (p, q) ≡ unrun (alternate m n) F (2 * (k + 1)) (10 - 2 * (k + 1)) s
+-- before the rounds 2 j and 2 j + 1 are taken back, the rounds from 2 k on have been, where k is j + 1
+pub two_less : (m n : ℕ) (F : ℕ → ℕ → ℕ) (k a b p q : ℕ) (s : ℕ × ℕ) → 0 < k → k ≤ 5
+    → q ≡ (b + (n - F (2 * (k - 1) + 1) a % n)) % n → p ≡ (a + (m - F (2 * (k - 1)) q % m)) % m
+    → (a, b) ≡ unrun (alternate m n) F (10 - 2 * k) (2 * k) s
+    → (p, q) ≡ unrun (alternate m n) F (10 - 2 * (k - 1)) (2 * (k - 1)) s
 unfolding unrun unround
-two_less m n F k a b p q s h hq hp inv =
-    let j : ℕ = 4 - k in
-    let e : 2 * (k + 1) ≡ suc (suc (2 * k)) = omega arith in
-    let f : 10 - 2 * (k + 1) ≡ 2 * j = omega arith in
-    let g : 10 - 2 * k ≡ suc (suc (2 * j)) = omega arith in
+two_less m n F k a b p q s h l hq hp inv =
+    let j : ℕ = k - 1 in
+    let e : 10 - 2 * j ≡ suc (suc (10 - 2 * k)) = omega arith in
+    let g : 2 * k ≡ suc (suc (2 * j)) = omega arith in
     let i : 2 * j + 1 ≡ suc (2 * j) = omega arith in
     let U : ℕ × ℕ → ℕ × ℕ = λ t. unround (alternate m n) F (2 * j) (unround (alternate m n) F (suc (2 * j)) t) in
     let hq' : q ≡ (b + (n - F (suc (2 * j)) a % n)) % n = hq ∙ ap (λ (i : ℕ). (b + (n - F i a % n)) % n) i in
@@ -87,22 +79,9 @@ two_less m n F k a b p q s h hq hp inv =
     let step : (p, q) ≡ U (a, b) =
     ap₂ (λ (x y : ℕ). (x, y)) hp' hq'
     ∙ sym (ap₂ (λ (s t : ℕ). ((a + (s - F (2 * j) ((b + (t - F (suc (2 * j)) a % t)) % t) % s)) % s, (b + (t - F (suc (2 * j)) a % t)) % t)) (even m n j) (odd m n j)) in
-    step ∙ ap U (inv ∙ ap (λ (i : ℕ). unrun (alternate m n) F (2 * k) i s) g)
-    ∙ sym (ap₂ (λ (c i : ℕ). unrun (alternate m n) F c i s) e f)
+    step ∙ ap U (inv ∙ ap (λ (i : ℕ). unrun (alternate m n) F (10 - 2 * k) i s) g)
+    ∙ sym (ap (λ (c : ℕ). unrun (alternate m n) F c (2 * j) s) e)
 
-pub back_done : (m n : ℕ) (F : ℕ → ℕ → ℕ) (k : ℕ) (t s : ℕ × ℕ) → k ≡ 5
-    → t ≡ unrun (alternate m n) F (2 * k) (10 - 2 * k) s → t ≡ unrun (alternate m n) F 10 0 s
-back_done m n F k t s e inv = subst (λ (k : ℕ). t ≡ unrun (alternate m n) F (2 * k) (10 - 2 * k) s) e inv
-
--- ---- a number and its halves, where k is the code's name for the size n of the second
-
-pub apart : (x m n k : ℕ) → k ≡ n → 0 < n → x < m * n → (x / k < m) × (x % k < n)
-apart x m n k e h l = subst (λ (j : ℕ). (x / j < m) × (x % j < n)) (sym e) (div_below x n m h l, mod-lt x h)
-
-pub rejoined : (T : ℕ × ℕ → ℕ × ℕ) (x n k p q a b : ℕ) → k ≡ n → p ≡ a → q ≡ b → (a, b) ≡ T (x / k, x % k) → p * k + q ≡ whole n (T (halves n x))
-rejoined T x n k p q a b e ep eq et =
-    ap₂ (λ (i j : ℕ). i * k + j) ep eq ∙ ap (whole k) et ∙ ap (λ (j : ℕ). whole j (T (halves j x))) e
-
-pub rejoined_below : (m n k p q a b : ℕ) → k ≡ n → p ≡ a → q ≡ b → a < m → b < n → p * k + q < m * n
-rejoined_below m n k p q a b e ep eq ha hb =
-    subst (λ (j : ℕ). j < m * n) (sym (ap₂ (λ (i j : ℕ). i * k + j) ep eq ∙ ap (λ (j : ℕ). a * j + b) e)) (digits_lt ha hb)
+pub back_done : (m n : ℕ) (F : ℕ → ℕ → ℕ) (k : ℕ) (t s : ℕ × ℕ) → k ≡ 0
+    → t ≡ unrun (alternate m n) F (10 - 2 * k) (2 * k) s → t ≡ unrun (alternate m n) F 10 0 s
+back_done m n F k t s e inv = subst (λ (k : ℕ). t ≡ unrun (alternate m n) F (10 - 2 * k) (2 * k) s) e inv

@@ -1,4 +1,4 @@
--- The sizes of the halves: sizes_of, Sized; and for which radix, length and tweak the code has room: allowed, room_for.
+-- The sizes of the halves: sizes_of, Sized, Within; and for which radix, length and tweak the code has room: allowed, room_for.
 use Rattle.std.specs.Prelude.{ℕ, ◌-◌, ◌/◌, ◌^◌, ◌<◌, ◌≤◌, Bool, ◌&&◌, List, length, nat_le}
 use Rattle.ff1.specs.Ff1.{half_bytes}
 use Rattle.ff1.specs.declared.rounds.Sizes.{Sizes}
@@ -23,3 +23,8 @@ pub record Sized (s : Sizes) : Type 0 where
   pub few : s.bytes ≤ 8
   pub left_spelled : s.left ≤ 256 ^ s.bytes
   pub right_spelled : s.right ≤ 256 ^ s.bytes
+
+-- both halves are below their sizes
+pub record Within (s : Sizes) (h : ℕ × ℕ) : Type 0 where
+  pub left : h.0 < s.left
+  pub right : h.1 < s.right

@@ -7,12 +7,13 @@ ghost use Rattle.aes.specs.Keyed.{key_of};
 ghost use Rattle.cipher.specs.Widths.{bits};
 ghost use Rattle.ff1.specs.Ff1.{ff1, ff1_back};
 ghost use Rattle.ff1.specs.Laws.{Ff1Returns};
-ghost use Rattle.ff1.specs.Sizes.{sizes_of, room_for};
+ghost use Rattle.ff1.specs.Sizes.{room_for};
 ghost use Rattle.ff1.specs.Preparing.{rounds_of};
 ghost use Rattle.ff1.specs.Ciphering.{ff1_for, ff1_enciphered, ff1_deciphered};
 ghost use Rattle.ff1.specs.CipheringLaws.{ff1_below, ff1_within, ff1_undone};
 
 pub(crate) mod network;
+pub(crate) mod numerals;
 pub(crate) mod preparing;
 pub mod rounds;
 pub(crate) mod sizing;
@@ -22,9 +23,9 @@ use aes::Aes128;
 use cipher::Cipher;
 use cipher::clear::low_bits;
 use cipher::width::Width;
-use network::{back, forth};
-use preparing::{rounds_of, rounds_with};
-use rounds::{Prepared, Rounds, Sizes};
+use network::Network;
+use preparing::{rounds_for, rounds_of};
+use rounds::Prepared;
 pub use state::Ff1;
 
 // Deciphering undoes enciphering, at every radix, length, key and tweak.
@@ -45,8 +46,11 @@ pub fn encipher_numerals(
     ensures { result ≡ (if room_for radix digits tweak.now then Some (ff1 radix digits (key_of aes.now) tweak.now (n % radix ^ digits)) else None) }
 {
     let rounds = rounds_of(aes, radix, digits, tweak)?;
-    let size = u128::from(rounds.sizes.left) * u128::from(rounds.sizes.right);
-    Some(forth(aes, &rounds, n % size))
+    let network = Network {
+        aes,
+        rounds: &rounds,
+    };
+    Some(network.forth(network.reduced(n)))
 }
 
 // Takes `encipher_numerals` back.
@@ -60,36 +64,25 @@ pub fn decipher_numerals(
     ensures { result ≡ (if room_for radix digits tweak.now then Some (ff1_back radix digits (key_of aes.now) tweak.now (n % radix ^ digits)) else None) }
 {
     let rounds = rounds_of(aes, radix, digits, tweak)?;
-    let size = u128::from(rounds.sizes.left) * u128::from(rounds.sizes.right);
-    Some(back(aes, &rounds, n % size))
-}
-
-// The halves of numbers in bits.
-fn binary(width: Width) -> Sizes
-    ensures { result ≡ sizes_of 2 (bits width) }
-{
-    match width {
-        Width::First => Sizes {
-            left: 1 << 28,
-            right: 1 << 29,
-            bytes: 4,
-        },
-        Width::Further => Sizes {
-            left: 1 << 29,
-            right: 1 << 30,
-            bytes: 4,
-        },
-    }
+    let network = Network {
+        aes,
+        rounds: &rounds,
+    };
+    Some(network.back(network.reduced(n)))
 }
 
 impl Ff1 {
-    // What was prepared for a width.
-    fn rounds(&self, width: Width) -> Rounds
-        ensures { result ≡ rounds_of 2 (bits width) (key_of self.now.aes) (bytes_of 8 self.now.meter) }
+    // The key, with what was prepared for a width.
+    fn network(&self, width: Width) -> Network<'_>
+        ensures key { result.aes.now ≡ self.now.aes }
+        ensures rounds { result.rounds.now ≡ rounds_of 2 (bits width) (key_of self.now.aes) (bytes_of 8 self.now.meter) }
     {
-        match width {
-            Width::First => self.prepared.first,
-            Width::Further => self.prepared.further,
+        Network {
+            aes: &self.aes,
+            rounds: match width {
+                Width::First => &self.prepared.first,
+                Width::Further => &self.prepared.further,
+            },
         }
     }
 }
@@ -108,20 +101,18 @@ impl Cipher for Ff1 {
     ghost undone = { ff1_undone };
 
     fn encipher(&self, width: Width, n: u64) -> u64 {
-        let rounds = self.rounds(width);
-        forth(&self.aes, &rounds, u128::from(low_bits(width, n))) as u64
+        self.network(width).forth(u128::from(low_bits(width, n))) as u64
     }
 
     fn decipher(&self, width: Width, n: u64) -> u64 {
-        let rounds = self.rounds(width);
-        back(&self.aes, &rounds, u128::from(low_bits(width, n))) as u64
+        self.network(width).back(u128::from(low_bits(width, n))) as u64
     }
 
     fn keyed(key: &[u8; 16], meter: u64) -> Ff1 {
         let aes = Aes128::new(key);
         let tweak = meter.to_be_bytes();
-        let first = rounds_with(&aes, 2, 57, binary(Width::First), &tweak);
-        let further = rounds_with(&aes, 2, 59, binary(Width::Further), &tweak);
+        let first = rounds_for(&aes, Width::First, &tweak);
+        let further = rounds_for(&aes, Width::Further, &tweak);
         Ff1 {
             aes,
             meter,

@@ -225,19 +225,14 @@ unfolding products_of
 product_at key ps n h e =
     ap (λ (xs : List ℕ). get_or xs n 0) e ∙ get_or-map-range_with_len (λ m. product_from 4 m key 0) 0 16 n n 0 h (omega arith)
 
--- one bit more of four
-pub bit_more : (n v z i G : ℕ) → i < 4 → product_from (4 - i) n v z ≡ G
-    → product_from (4 - (i + 1)) n (times_x v) (bit_xor z (n / 2 ^ (3 - i) % 2 * v)) ≡ G
+-- one bit more, where p are left
+pub bit_more : (n v z p G : ℕ) → 0 < p → product_from p n v z ≡ G → product_from (p - 1) n (times_x v) (bit_xor z (n / 2 ^ (p - 1) % 2 * v)) ≡ G
 unfolding product_from
-bit_more n v z i G h inv =
-    let e : 4 - i ≡ suc (3 - i) = omega arith in
-    let f : 4 - (i + 1) ≡ 3 - i = omega arith in
-    ap (λ (k : ℕ). product_from k n (times_x v) (bit_xor z (n / 2 ^ (3 - i) % 2 * v))) f
-    ∙ sym (ap (λ (k : ℕ). product_from k n v z) e) ∙ inv
+bit_more n v z p G h inv = sym (ap (λ (k : ℕ). product_from k n v z) (let e : p ≡ suc (p - 1) = omega arith in e)) ∙ inv
 
-pub bits_all : (n v z i G : ℕ) → i ≡ 4 → product_from (4 - i) n v z ≡ G → z ≡ G
+pub bits_all : (n v z p G : ℕ) → p ≡ 0 → product_from p n v z ≡ G → z ≡ G
 unfolding product_from
-bits_all n v z i G e inv = subst (λ (k : ℕ). product_from (4 - k) n v z ≡ G) e inv
+bits_all n v z p G e inv = subst (λ (k : ℕ). product_from k n v z ≡ G) e inv
 
 -- a key with its products is the one that the key makes
 pub made : (key : ℕ) (ps : List ℕ) (e : ps ≡ products_of key) → ◌≡◌ {A = HashKey} (record { key = key; products = ps; kept = e }) (hash_for key)

@@ -1,8 +1,9 @@
 -- The tag, the first counter and the value that a key makes, over plain values.
-use Rattle.std.proofs.Common.{◌≡◌, ℕ, List, [], ◌∷◌, ◌++◌, length, get_or, sym, refl, ap, ◌∙◌, ap₂}
+use Rattle.std.proofs.Common.{◌≡◌, ℕ, ◌+◌, ◌^◌, ◌<◌, ◌≤◌, List, [], ◌∷◌, ◌++◌, length, get_or, sym, refl, ap, ◌∙◌, ap₂, arith, lit<, lit≤}
 use mathlib.Core.Path.{Cosingl, contract'}
 use lib.Bits.{bit_xor}
-use Rattle.std.proofs.lemmas.List.FromFn.{fill_by_all}
+use lib.ListN.{get_or-append}
+use Rattle.std.proofs.lemmas.List.{get_or_past, get_or-append-add}
 use Rattle.spelling.specs.Spelling.{bytes_of}
 use Rattle.aes.specs.Keyed.{aes_for, key_of}
 use Rattle.aes.specs.declared.state.Aes128.{Aes128}
@@ -15,14 +16,49 @@ use Rattle.gmac.specs.Gmac.{hash_key, ghash, first_counter, lengths, gmac}
 use Rattle.gmac.specs.Authenticating.{gmac_for}
 use Rattle.gmac.specs.declared.state.Gmac.{Gmac}
 
-pub counter_is : (nonce : List ℕ) (r : ℕ) → length nonce ≡ 12
-    → r
-    ≡ block_of (get_or nonce 0 0 ∷ get_or nonce 1 0 ∷ get_or nonce 2 0 ∷ get_or nonce 3 0 ∷ get_or nonce 4 0 ∷ get_or nonce 5 0 ∷ get_or nonce 6 0 ∷ get_or nonce 7 0
-    ∷ get_or nonce 8 0 ∷ get_or nonce 9 0 ∷ get_or nonce 10 0 ∷ get_or nonce 11 0 ∷ 0 ∷ 0 ∷ 0 ∷ 1 ∷ [])
-    → r ≡ first_counter nonce
-unfolding first_counter
-counter_is nonce r e er =
-    er ∙ sym (ap (λ (xs : List ℕ). block_of (xs ++ (0 ∷ 0 ∷ 0 ∷ 1 ∷ []))) (fill_by_all (λ (i : ℕ). get_or nonce i 0) nonce 12 0 e (λ k h. refl)))
+-- the nonce's block and the first counter, which differ in the last byte
+module _ (nonce : List ℕ) (twelve : length nonce ≡ 12) where
+  past : (k : ℕ) → 12 ≤ k → get_or nonce k 0 ≡ 0
+  past k h = get_or_past nonce k 0 (omega arith)
+
+  front : (k : ℕ) → k < 12 → get_or (nonce ++ (0 ∷ 0 ∷ 0 ∷ 1 ∷ [])) k 0 ≡ get_or nonce k 0
+  front k h = get_or-append nonce (0 ∷ 0 ∷ 0 ∷ 1 ∷ []) 0 k (omega arith)
+
+  behind : (j k : ℕ) → 12 + j ≡ k → get_or (nonce ++ (0 ∷ 0 ∷ 0 ∷ 1 ∷ [])) k 0 ≡ get_or (0 ∷ 0 ∷ 0 ∷ 1 ∷ []) j 0
+  behind j k e =
+      ap (λ (m : ℕ). get_or (nonce ++ (0 ∷ 0 ∷ 0 ∷ 1 ∷ [])) m 0) (let f : k ≡ length nonce + j = omega arith in f)
+      ∙ get_or-append-add nonce (0 ∷ 0 ∷ 0 ∷ 1 ∷ []) j 0
+
+  pub room : (r : ℕ) → r ≡ block_of nonce → r < 2 ^ 128 → r + 1 < 2 ^ 128
+  unfolding block_of
+  room r e h = omega (arith, e, h, past 12 (lit≤ tt), past 13 (lit≤ tt), past 14 (lit≤ tt), past 15 (lit≤ tt))
+
+  pub counter_is : block_of nonce + 1 ≡ first_counter nonce
+  unfolding first_counter block_of
+  counter_is =
+      omega (
+        arith,
+        past 12 (lit≤ tt),
+        past 13 (lit≤ tt),
+        past 14 (lit≤ tt),
+        past 15 (lit≤ tt),
+        front 0 (lit< tt),
+        front 1 (lit< tt),
+        front 2 (lit< tt),
+        front 3 (lit< tt),
+        front 4 (lit< tt),
+        front 5 (lit< tt),
+        front 6 (lit< tt),
+        front 7 (lit< tt),
+        front 8 (lit< tt),
+        front 9 (lit< tt),
+        front 10 (lit< tt),
+        front 11 (lit< tt),
+        behind 0 12 refl,
+        behind 1 13 refl,
+        behind 2 14 refl,
+        behind 3 15 refl,
+      )
 
 -- the tag of the bytes m, from what each call of the code gave
 pub tag_is : (key nonce m : List ℕ) (h : HashKey) (y l z s c : ℕ) (r : List ℕ) → h ≡ hash_for (hash_key key)

@@ -19,8 +19,7 @@ pub use state::Gmac;
 fn first_counter(nonce: &[u8; 12]) -> u128
     ensures { result ≡ first_counter nonce.now }
 {
-    let [a, b, c, d, e, f, g, h, i, j, k, l] = *nonce;
-    block_of(&[a, b, c, d, e, f, g, h, i, j, k, l, 0, 0, 0, 1])
+    block_of(nonce) + 1
 }
 
 impl Authenticator for Gmac {
@@ -40,6 +39,7 @@ impl Authenticator for Gmac {
         (self.aes.apply(first_counter(nonce)) ^ hashed).to_be_bytes()
     }
 
+    #[tactic(auto, using(crate::proofs::Tagging::made))]
     fn keyed(key: &[u8; 16], _meter: u64) -> Gmac {
         let aes = Aes128::new(key);
         let hash = HashKey::new(aes.apply(0));

@@ -20,9 +20,8 @@ fn prints<C: Cipher, A: Authenticator>(till: &mut Till<C, A>, expected: &SlipVec
     };
     let mut slip = [0; 80];
     match till.issue(drawn, &expected.sale, &mut slip) {
-        Ok(length) => slip.get(0..length) == Some(expected.digits),
-        Err(refused) => {
-            let NotIssued { refusal: _, drawn } = refused;
+        Ok(length) => slip.get(..length) == Some(expected.digits),
+        Err(NotIssued { refusal: _, drawn }) => {
             till.void(drawn);
             false
         }
@@ -35,11 +34,5 @@ pub(crate) fn agreeing<C: Cipher, A: Authenticator>(
 ) -> usize
     ensures { result ≤ length slips.now }
 {
-    let mut count = 0;
-    for slip in slips {
-        if prints(till, slip) {
-            count += 1;
-        }
-    }
-    count
+    slips.iter().filter(|slip| prints(till, slip)).count()
 }

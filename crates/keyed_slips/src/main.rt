@@ -8,7 +8,7 @@ use anyhow::anyhow;
 use authenticator::Authenticator;
 use cipher::Cipher;
 use cmac::Cmac;
-use comparing::agreeing;
+use comparing::{SlipVector, agreeing};
 use ff1::Ff1;
 use gmac::Gmac;
 use sealing::settings::{SettingValues, Settings};
@@ -17,38 +17,33 @@ use till::selling::Till;
 
 const METER: u64 = 81985529216486895;
 
-fn compare(rt: &HostRuntime) -> anyhow::Result<()> {
-    let Ok(settings) = Settings::new(SettingValues {
-        supplier: 1234605616436508552,
-        meter: METER,
-        multipliers: [1, 10, 100, 0],
-        ceiling: 4294967295,
-    }) else {
-        return Err(anyhow!("the settings are outside their limits"));
-    };
-    let mut till = Till::new(
-        settings,
-        Ff1::keyed(&GMAC_CIPHER_KEY, METER),
-        Gmac::keyed(&GMAC_KEY, METER),
-    );
+// Prints how many slips of a till with FF1 and an authenticator are the ones expected.
+fn compare<A: Authenticator + Drop>(
+    rt: &HostRuntime,
+    name: &str,
+    mut till: Till<Ff1, A>,
+    slips: &[SlipVector],
+) -> anyhow::Result<()> {
     println!(rt;
-        "slips of a till with FF1 and GMAC: {} of {}",
-        agreeing(&mut till, &GMAC_SLIPS),
-        GMAC_SLIPS.len()
-    )?;
-    let mut till = Till::new(
-        settings,
-        Ff1::keyed(&CMAC_CIPHER_KEY, METER),
-        Cmac::keyed(&CMAC_KEY, METER),
-    );
-    println!(rt;
-        "slips of a till with FF1 and CMAC: {} of {}",
-        agreeing(&mut till, &CMAC_SLIPS),
-        CMAC_SLIPS.len()
+        "slips of a till with FF1 and {name}: {} of {}",
+        agreeing(&mut till, slips),
+        slips.len()
     )?;
     Ok(())
 }
 
 fn main(rt: HostRuntime) -> anyhow::Result<()> {
-    compare(&rt)
+    let settings = Settings::new(SettingValues {
+        supplier: 1234605616436508552,
+        meter: METER,
+        multipliers: [1, 10, 100, 0],
+        ceiling: 4294967295,
+    })
+    .map_err(|_| anyhow!("the settings are outside their limits"))?;
+    let cipher = Ff1::keyed(&GMAC_CIPHER_KEY, METER);
+    let till = Till::new(settings, cipher, Gmac::keyed(&GMAC_KEY, METER));
+    compare(&rt, "GMAC", till, &GMAC_SLIPS)?;
+    let cipher = Ff1::keyed(&CMAC_CIPHER_KEY, METER);
+    let till = Till::new(settings, cipher, Cmac::keyed(&CMAC_KEY, METER));
+    compare(&rt, "CMAC", till, &CMAC_SLIPS)
 }

@@ -1,14 +1,10 @@
 -- What the operations come to when each works on what the one before it gave: repeated; and a lap of each, on blocks as numbers.
-use Rattle.std.specs.Prelude.{ℕ, zero, suc, ◌%◌, ◌^◌, take, replicate}
+use Rattle.std.specs.Prelude.{ℕ, zero, suc, ◌%◌, ◌^◌, List, take, replicate}
 use Rattle.spelling.specs.Spelling.{bytes_of}
 use Rattle.aes.specs.Keyed.{key_of}
 use Rattle.aes.specs.declared.state.Aes128.{Aes128}
 use Rattle.chaining.specs.Blocks.{aes_block, block_of}
 use Rattle.cipher.specs.declared.width.Width.TheVariants.{Further}
-use Rattle.cmac.specs.Authenticating.{cmac_tag}
-use Rattle.cmac.specs.declared.state.Cmac.{Cmac}
-use Rattle.gmac.specs.Authenticating.{gmac_tag}
-use Rattle.gmac.specs.declared.state.Gmac.{Gmac}
 use Rattle.ff1.specs.Ciphering.{ff1_enciphered}
 use Rattle.ff1.specs.declared.state.Ff1.{Ff1}
 
@@ -19,12 +15,9 @@ repeated (suc n) f x = repeated n f (f x)
 abbrev pub block_lap : Aes128 → ℕ → ℕ
 block_lap a n = aes_block (key_of a) n
 
--- a message of 64 zeros, under a nonce from the tag before
-abbrev pub gmac_lap : Gmac → ℕ → ℕ
-gmac_lap g n = block_of (gmac_tag g (take 12 (bytes_of 16 n)) (replicate 64 0))
-
-abbrev pub cmac_lap : Cmac → ℕ → ℕ
-cmac_lap c n = block_of (cmac_tag c (take 12 (bytes_of 16 n)) (replicate 64 0))
+-- a message of 64 zeros, under a nonce from the tag before, by what an authenticator makes of nonce and message
+abbrev pub tag_lap : (List ℕ → List ℕ → List ℕ) → ℕ → ℕ
+tag_lap tagged n = block_of (tagged (take 12 (bytes_of 16 n)) (replicate 64 0))
 
 abbrev pub ff1_lap : Ff1 → ℕ → ℕ
 ff1_lap f n = ff1_enciphered f Further (n % 2 ^ 59)

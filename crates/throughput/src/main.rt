@@ -10,7 +10,7 @@ use cipher::Cipher;
 use cmac::Cmac;
 use ff1::Ff1;
 use gmac::Gmac;
-use laps::{Lap, laps};
+use laps::{Lap, Tagging, laps};
 use std::env;
 use std::time::Instant;
 
@@ -28,13 +28,13 @@ fn measure<L: Lap>(rt: &HostRuntime, name: &str, operation: &L, count: u32) -> a
 
 fn main(rt: HostRuntime) -> anyhow::Result<()> {
     let mut arguments = env::args(&rt)?;
-    let count = match arguments.nth(1) {
-        Some(text) => text.parse::<u32>().unwrap_or(1000),
-        None => 1000,
-    };
+    let count = arguments
+        .nth(1)
+        .and_then(|text| text.parse::<u32>().ok())
+        .unwrap_or(1000);
     measure(&rt, "block", &Aes128::new(&KEY), count)?;
-    measure(&rt, "gmac", &Gmac::keyed(&KEY, 0), count)?;
-    measure(&rt, "cmac", &Cmac::keyed(&KEY, 0), count)?;
+    measure(&rt, "gmac", &Tagging(Gmac::keyed(&KEY, 0)), count)?;
+    measure(&rt, "cmac", &Tagging(Cmac::keyed(&KEY, 0)), count)?;
     measure(&rt, "ff1", &Ff1::keyed(&KEY, 0), count)?;
     Ok(())
 }

@@ -13,11 +13,5 @@ pub(crate) trait Vector {
 pub(crate) fn agreeing<V: Vector>(vectors: &[V]) -> usize
     ensures { result ≡ count_by V.right vectors.now }
 {
-    let mut count = 0;
-    for v in vectors {
-        if v.agrees() {
-            count += 1;
-        }
-    }
-    count
+    vectors.iter().filter(|v| v.agrees()).count()
 }

@@ -9,41 +9,21 @@ pub(crate) mod numerals;
 pub(crate) mod published;
 pub(crate) mod tags;
 
-use agreeing::agreeing;
+use agreeing::{Vector, agreeing};
 use independent::{BITS, TAGS};
 use published::{BLOCKS, GMAC_PUBLISHED, MESSAGES, NUMERALS};
 use std::io;
 
+// Prints how many of a group agree.
+fn compare<V: Vector>(rt: &HostRuntime, group: &str, vectors: &[V]) -> io::Result<()> {
+    println!(rt; "{group}: {} of {}", agreeing(vectors), vectors.len())
+}
+
 fn main(rt: HostRuntime) -> io::Result<()> {
-    println!(rt;
-        "AES-128 of FIPS 197 and SP 800-38A: {} of {}",
-        agreeing(&BLOCKS),
-        BLOCKS.len()
-    )?;
-    println!(rt;
-        "CMAC of SP 800-38B: {} of {}",
-        agreeing(&MESSAGES),
-        MESSAGES.len()
-    )?;
-    println!(rt;
-        "GMAC of SP 800-38D: {} of {}",
-        agreeing(&GMAC_PUBLISHED),
-        GMAC_PUBLISHED.len()
-    )?;
-    println!(rt;
-        "FF1 of SP 800-38G, both ways: {} of {}",
-        agreeing(&NUMERALS),
-        NUMERALS.len()
-    )?;
-    println!(rt;
-        "FF1 of 57 and 59 bits by MeterID, both ways: {} of {}",
-        agreeing(&BITS),
-        BITS.len()
-    )?;
-    println!(rt;
-        "GMAC and CMAC of nonce and message: {} of {}",
-        agreeing(&TAGS),
-        TAGS.len()
-    )?;
-    Ok(())
+    compare(&rt, "AES-128 of FIPS 197 and SP 800-38A", &BLOCKS)?;
+    compare(&rt, "CMAC of SP 800-38B", &MESSAGES)?;
+    compare(&rt, "GMAC of SP 800-38D", &GMAC_PUBLISHED)?;
+    compare(&rt, "FF1 of SP 800-38G, both ways", &NUMERALS)?;
+    compare(&rt, "FF1 of 57 and 59 bits by MeterID, both ways", &BITS)?;
+    compare(&rt, "GMAC and CMAC of nonce and message", &TAGS)
 }

@@ -1,6 +1,5 @@
 // FF1 on numerals of a radix, and on numbers in bits as a cipher.
-ghost use Rattle.std.specs.Prelude.{◌≡◌};
-ghost use Rattle.vectors.specs.Right.{numeral_there, numeral_back, right_numeral, bits_there, bits_back, right_bits};
+ghost use Rattle.vectors.specs.Right.{right_numeral, right_bits};
 
 use crate::agreeing::Vector;
 use aes::Aes128;
@@ -29,46 +28,14 @@ pub(crate) struct BitsVector {
     pub(crate) enciphered: u64,
 }
 
-// Whether enciphering gives the value.
-fn enciphers(v: &NumeralVector) -> bool
-    ensures { result ≡ numeral_there v.now }
-{
-    let aes = Aes128::new(&v.key.to_be_bytes());
-    match encipher_numerals(&aes, v.radix, v.digits, v.tweak, v.plain) {
-        Some(n) => n == v.enciphered,
-        None => false,
-    }
-}
-
-// Whether deciphering gives the number again.
-fn deciphers(v: &NumeralVector) -> bool
-    ensures { result ≡ numeral_back v.now }
-{
-    let aes = Aes128::new(&v.key.to_be_bytes());
-    match decipher_numerals(&aes, v.radix, v.digits, v.tweak, v.enciphered) {
-        Some(n) => n == v.plain,
-        None => false,
-    }
-}
-
-// The cipher's two maps at a vector.
-fn enciphered_bits(v: &BitsVector) -> u64
-    ensures { result ≡ bits_there v.now }
-{
-    Ff1::keyed(&v.key.to_be_bytes(), v.meter).encipher(v.width, v.plain)
-}
-
-fn deciphered_bits(v: &BitsVector) -> u64
-    ensures { result ≡ bits_back v.now }
-{
-    Ff1::keyed(&v.key.to_be_bytes(), v.meter).decipher(v.width, v.enciphered)
-}
-
 impl Vector for NumeralVector {
     ghost right = { right_numeral };
 
     fn agrees(&self) -> bool {
-        enciphers(self) && deciphers(self)
+        let aes = Aes128::new(&self.key.to_be_bytes());
+        let there = encipher_numerals(&aes, self.radix, self.digits, self.tweak, self.plain);
+        let back = decipher_numerals(&aes, self.radix, self.digits, self.tweak, self.enciphered);
+        there == Some(self.enciphered) && back == Some(self.plain)
     }
 }
 
@@ -76,6 +43,9 @@ impl Vector for BitsVector {
     ghost right = { right_bits };
 
     fn agrees(&self) -> bool {
-        enciphered_bits(self) == self.enciphered && deciphered_bits(self) == self.plain
+        let cipher = Ff1::keyed(&self.key.to_be_bytes(), self.meter);
+        let there = cipher.encipher(self.width, self.plain);
+        let back = cipher.decipher(self.width, self.enciphered);
+        there == self.enciphered && back == self.plain
     }
 }

@@ -1,9 +1,7 @@
 // Tags of messages.
-ghost use Rattle.std.specs.Prelude.{◌≡◌, ◌++◌, take};
+ghost use Rattle.std.specs.Prelude.{◌≡◌, take};
 ghost use Rattle.spelling.specs.Spelling.{bytes_of};
 ghost use Rattle.chaining.specs.Blocks.{block_of};
-ghost use Rattle.cmac.specs.Cmac.{cmac};
-ghost use Rattle.gmac.specs.Gmac.{gmac};
 ghost use Rattle.vectors.specs.Right.{right_message, right_gmac, right_tags};
 
 use crate::agreeing::Vector;
@@ -39,18 +37,11 @@ pub(crate) struct TagVector {
     pub(crate) cmac: u128,
 }
 
-// GMAC's tag, as a number.
-fn gmac_of(key: u128, nonce: &[u8; 12], message: &[u8]) -> u128
-    ensures { result ≡ block_of (gmac (bytes_of 16 key) nonce.now (take 64 message.now)) }
+// The tag that an authenticator for a key gives, as a number.
+fn tag_of<A: Authenticator + Drop>(key: u128, nonce: &[u8; 12], message: &[u8]) -> u128
+    ensures { result ≡ block_of (A.tagged (A.keyed (bytes_of 16 key) 0) nonce.now (take 64 message.now)) }
 {
-    block_of(&Gmac::keyed(&key.to_be_bytes(), 0).tag(nonce, message))
-}
-
-// CMAC's tag of the nonce and then the message, as a number.
-fn cmac_of(key: u128, nonce: &[u8; 12], message: &[u8]) -> u128
-    ensures { result ≡ block_of (cmac (bytes_of 16 key) (nonce.now ++ take 64 message.now)) }
-{
-    block_of(&Cmac::keyed(&key.to_be_bytes(), 0).tag(nonce, message))
+    block_of(&A::keyed(&key.to_be_bytes(), 0).tag(nonce, message))
 }
 
 impl Vector for MessageVector {
@@ -66,7 +57,7 @@ impl Vector for GmacVector {
     ghost right = { right_gmac };
 
     fn agrees(&self) -> bool {
-        gmac_of(self.key, self.nonce, self.message) == self.tag
+        tag_of::<Gmac>(self.key, self.nonce, self.message) == self.tag
     }
 }
 
@@ -74,8 +65,8 @@ impl Vector for TagVector {
     ghost right = { right_tags };
 
     fn agrees(&self) -> bool {
-        let gmac = gmac_of(self.key, self.nonce, self.message);
-        let cmac = cmac_of(self.key, self.nonce, self.message);
+        let gmac = tag_of::<Gmac>(self.key, self.nonce, self.message);
+        let cmac = tag_of::<Cmac>(self.key, self.nonce, self.message);
         gmac == self.gmac && cmac == self.cmac
     }
 }

@@ -1,15 +1,16 @@
-use Rattle.std.proofs.Common.{length, ap, ◌∙◌, arith}
-use Rattle.chaining.specs.Blocks.{block_of}
-use Rattle.chaining.proofs.Chaining.{block_count, rest_is, chain_more, chain_all}
+use Rattle.std.proofs.Common.{ℕ, List, ap, ◌∙◌, arith, rules}
+use lib.Bits.{bit_xor}
+use Rattle.chaining.specs.Blocks.{block_of, blocks_of, chained}
+use Rattle.chaining.proofs.Chaining.{fold_is}
 use Rattle.chaining.proofs.chain.Goals as goal
-
-pub loop-k-preserved : goal.loop-k-preserved
-loop-k-preserved g c =
-    let xs = c.args.bytes.now in
-    chain_more (g.M.BlockMap.mapped c.args.map.now) xs c.loop-k.k c.loop-k.y c.block_of.result c.apply-y.result _
-    (omega (arith, block_count (length xs))) (c.block_of.ensures ∙ ap block_of (rest_is xs c.loop-k.k)) c.apply-y.ensures c.loop-k.invariant
 
 pub returns : goal.returns
 returns g c =
-    let xs = c.args.bytes.now in
-    chain_all (g.M.BlockMap.mapped c.args.map.now) xs c.loop-k.k c.loop-k.y _ (omega (arith, block_count (length xs))) c.loop-k.invariant
+    let f = g.M.BlockMap.mapped c.args.map.now in
+    let run = c.fold.ensures.runs in
+    let p = run.0 in
+    let cut = c.chunks.ensures.runs p p.seen (omega (arith, ap (λ s. s.size) run.1, c.chunks.ensures.size)) in
+    let xs = ap (λ s. s.rest.now) run.1 ∙ c.chunks.ensures.rest in
+    run.3 (λ z b. f (bit_xor z (block_of b.now))) (λ y b r q t. search rules)
+    ∙ fold_is p run.2 _ _ cut (ap (λ s. s.size) run.1 ∙ c.chunks.ensures.size) f c.args.start
+    ∙ ap (λ (ys : List ℕ). chained f c.args.start (blocks_of ys)) xs

@@ -1,24 +1,19 @@
-use Rattle.std.proofs.Common.{ℕ, ◌+◌, ◌-◌, ◌*◌, ◌/◌, ◌%◌, ◌^◌, ◌≤◌, refl, ap, ◌∙◌, le_refl, arith, rules}
+use Rattle.std.proofs.Common.{ℕ, ◌-◌, ◌*◌, ◌/◌, ◌%◌, ◌^◌, ap, ◌∙◌, arith}
 use lib.Bits.{bit_xor}
-use Rattle.std.proofs.lemmas.Nat.{mul-le}
 use Rattle.ghash.specs.Ghash.{product_from}
 use Rattle.ghash.proofs.Horner.{bit_more, bits_all}
 use Rattle.ghash.proofs.four_bits.Goals as goal
 
-pub overflow_mul-z : goal.overflow_mul-z
-overflow_mul-z c =
-    let b : c.args.n / 2 ^ (3 - c.loop-i.i) % 2 ≤ 1 = omega arith in
-    omega (arith, mul-le (c.args.n / 2 ^ (3 - c.loop-i.i) % 2) c.loop-i.v 1 c.loop-i.v b (le_refl c.loop-i.v))
-
-pub loop-i-init : goal.loop-i-init
-loop-i-init c = (search rules, refl)
-
-pub loop-i-preserved : goal.loop-i-preserved
-loop-i-preserved c = (
-  c.times_x-v.type_inv,
-  ap (λ (v : ℕ). product_from (4 - (c.loop-i.i + 1)) c.args.n v (bit_xor c.loop-i.z (c.args.n / 2 ^ (3 - c.loop-i.i) % 2 * c.loop-i.v))) c.times_x-v.ensures
-      ∙ bit_more c.args.n c.loop-i.v c.loop-i.z c.loop-i.i _ (omega arith) c.loop-i.invariant.1,
-)
+pub loop-place-preserved : goal.loop-place-preserved
+loop-place-preserved c =
+    let n = c.args.n in
+    let p = c.loop-place.place in
+    let v = c.loop-place.v in
+    let z = c.loop-place.z in (
+      c.times_x-v.type_inv,
+      ap (λ (w : ℕ). product_from (p - 1) n w (bit_xor z (n / 2 ^ (p - 1) % 2 * v))) c.times_x-v.ensures
+          ∙ bit_more n v z p _ (omega arith) c.loop-place.invariant.1,
+    )
 
 pub returns : goal.returns
-returns c = bits_all c.args.n c.loop-i.v c.loop-i.z c.loop-i.i _ (omega arith) c.loop-i.invariant.1
+returns c = bits_all c.args.n c.loop-place.v c.loop-place.z c.loop-place.place _ (omega arith) c.loop-place.invariant.1

@@ -3,4 +3,5 @@ use Rattle.aes.proofs.columns.round.Goals as goal
 
 pub returns : goal.returns
 returns c =
-    round_is c.args.s.now c.args.k.now c.column.ensures c.column-2.ensures c.column-3.ensures c.column-4.ensures
+    let h = c.columns.ensures in
+    round_is c.args.s.now c.args.k.now c.columns.result (record { first = h.first.1; second = h.second.1; third = h.third.1; fourth = h.fourth.1 })

@@ -1,12 +1,8 @@
-use Rattle.std.proofs.Common.{sym, refl, arith, length-take}
-use Rattle.std.proofs.lemmas.List.{take_all}
+use Rattle.std.proofs.Common.{◌≡◌, length, take, min, ap, ◌∙◌, arith}
+use Rattle.std.proofs.lemmas.List.{take_min}
 use Rattle.authenticator.proofs.byte_sum.counting_part.Goals as goal
 
-pub slice_bounds-result-end : goal.slice_bounds-result-end
-slice_bounds-result-end c = simp length-take (omega arith)
-
-pub returns-then-message-gt64 : goal.returns-then-message-gt64
-returns-then-message-gt64 c = (refl, simp length-take (omega arith))
-
-pub returns : goal.returns
-returns c = (sym (take_all 64 c.args.message.now (omega arith)), omega arith)
+pub returns-clause-part : goal.returns-clause-part
+returns-clause-part c =
+    let xs = c.args.message.now in
+    ap (λ n. take n xs) (let e : c.min.result ≡ min 64 (length xs) = omega (arith, c.min.ensures) in e) ∙ take_min 64 xs

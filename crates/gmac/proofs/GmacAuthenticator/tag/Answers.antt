@@ -11,4 +11,4 @@ returns c =
     let nonce = c.args.nonce.now in
     tag_is key nonce c.counting_part-part.result.now self.hash c.chain-y.result _ c.apply-hashed.result c.apply.result c.first_counter.result
     c.to_be_bytes.result self.kept c.chain-y.ensures refl c.apply-hashed.ensures c.first_counter.ensures c.apply.ensures c.to_be_bytes.ensures
-    ∙ ap (gmac key nonce) c.counting_part-part.ensures.0
+    ∙ ap (gmac key nonce) c.counting_part-part.ensures.part
