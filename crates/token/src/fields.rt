@@ -10,8 +10,8 @@ pub(crate) fn pack(widths: &[u32], values: &[u64]) -> u64
     ensures bound { result < 2 ^ total widths.now }
 {
     let mut word = 0;
-    for (i, width) in widths.iter().enumerate() {
-        word = (word << *width) + values[i];
+    for (width, value) in widths.iter().zip(values) {
+        word = (word << *width) + *value;
     }
     word
 }
@@ -24,6 +24,7 @@ pub(crate) fn unpack<const N: usize>(widths: &[u32; N], word: u64) -> [u64; N]
 {
     let mut fields = [0; N];
     let mut left = word;
+    // By index: of an array that an iterator of two slices wrote, a proof knows no element.
     for i in (0..N).rev() {
         fields[i] = left % (1 << widths[i]);
         left >>= widths[i];
@@ -32,6 +33,7 @@ pub(crate) fn unpack<const N: usize>(widths: &[u32; N], word: u64) -> [u64; N]
 }
 
 // Packing and unpacking undo one another, whatever the widths.
+#[tactic(auto, using(crate::proofs::Packs::packs))]
 pub fn packing_law() -> u8
     ensures { (ws : List ℕ) → Packs ws }
 {

@@ -12,7 +12,8 @@ pub(crate) const TYPE: u64 = 1;
 
 pub(crate) const SUB_INFORMATION: u64 = 1;
 
-fn first_widths(size: u8) -> [u32; 10]
+// A function for each part, as each has its own widths and values, and one for all three would be a table that is cut up again.
+pub(crate) fn first_widths(size: u8) -> [u32; 10]
     requires { size ≤ 3 }
     ensures { result ≡ first_part_widths size }
 {
@@ -20,7 +21,7 @@ fn first_widths(size: u8) -> [u32; 10]
     [1, 4, 4, 6, 4, 3, 2, 11 + s, 11 + s, 13 - 2 * s]
 }
 
-fn second_widths(size: u8) -> [u32; 5]
+pub(crate) fn second_widths(size: u8) -> [u32; 5]
     requires { size ≤ 3 }
     ensures { result ≡ second_part_widths size }
 {
@@ -28,7 +29,7 @@ fn second_widths(size: u8) -> [u32; 5]
     [11 + s, 11 + s, 11 + s, 11 + s, 15 - 4 * s]
 }
 
-fn third_widths(size: u8) -> [u32; 3]
+pub(crate) fn third_widths(size: u8) -> [u32; 3]
     requires { size ≤ 3 }
     ensures { result ≡ third_part_widths size }
 {
@@ -46,43 +47,38 @@ pub(crate) fn part_count(count: u8) -> usize
     }
 }
 
-pub(crate) fn first_part(t: &Tariff, size: u8) -> u64
+// What the first part holds.
+pub(crate) fn first_values(t: &Tariff, size: u8) -> [u64; 10]
     requires { fits t.now size ≡ true }
-    ensures value { result ≡ packed (first_part_widths size) (first_part_fields t.now size) }
-    ensures bound { result < 2 ^ 59 }
+    ensures { result ≡ first_part_fields t.now size }
 {
-    let values = [
-        t.complete as u64,
+    [
+        u64::from(t.complete),
         TYPE,
         SUB_INFORMATION,
-        t.month as u64,
-        (t.count - 1) as u64,
-        t.multiplier as u64,
-        size as u64,
-        t.prices[0] as u64,
-        t.prices[1] as u64,
+        u64::from(t.month),
+        u64::from(t.count - 1),
+        u64::from(t.multiplier),
+        u64::from(size),
+        u64::from(t.prices[0]),
+        u64::from(t.prices[1]),
         0,
-    ];
-    fields::pack(&first_widths(size), &values)
+    ]
 }
 
-pub(crate) fn second_part(t: &Tariff, size: u8) -> u64
-    requires { fits t.now size ≡ true }
-    ensures value { result ≡ packed (second_part_widths size) (second_part_fields t.now) }
-    ensures bound { result < 2 ^ 59 }
+// What the second part holds.
+pub(crate) fn second_values(t: &Tariff) -> [u64; 5]
+    ensures { result ≡ second_part_fields t.now }
 {
     let [_, _, a, b, c, d, _, _] = t.prices;
-    let values = [a as u64, b as u64, c as u64, d as u64, 0];
-    fields::pack(&second_widths(size), &values)
+    [u64::from(a), u64::from(b), u64::from(c), u64::from(d), 0]
 }
 
-pub(crate) fn third_part(t: &Tariff, size: u8) -> u64
-    requires { fits t.now size ≡ true }
-    ensures value { result ≡ packed (third_part_widths size) (third_part_fields t.now) }
-    ensures bound { result < 2 ^ 59 }
+// What the third part holds.
+pub(crate) fn third_values(t: &Tariff) -> [u64; 3]
+    ensures { result ≡ third_part_fields t.now }
 {
-    let values = [t.prices[6] as u64, t.prices[7] as u64, 0];
-    fields::pack(&third_widths(size), &values)
+    [u64::from(t.prices[6]), u64::from(t.prices[7]), 0]
 }
 
 pub(crate) fn first_fields(word: u64, size: u8) -> [u64; 10]
@@ -113,5 +109,5 @@ pub(crate) fn third_fields(word: u64, size: u8) -> [u64; 3]
 pub(crate) fn part(parts: &[u64], i: usize) -> u64
     ensures { result ≡ slice_index parts.now i }
 {
-    if i < parts.len() { parts[i] } else { 0 }
+    parts.get(i).copied().unwrap_or(0)
 }
