@@ -18,7 +18,8 @@ fn put_field(memory: &mut [u8], at: usize, field: Field<'_>)
 {
     let value = field.value();
     let width = value.len();
-    let head = [field.tag(), (width / 256) as u8, (width % 256) as u8];
+    let [high, low] = (width as u16).to_be_bytes();
+    let head = [field.tag(), high, low];
     memory[at..at + 3].copy_from_slice(&head);
     memory[at + 3..at + 3 + width].copy_from_slice(value);
 }

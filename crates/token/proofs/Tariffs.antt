@@ -48,6 +48,12 @@ long t =
     let ps = t.prices in
     eqb-true (length ps) 8 (and_parts (eqb (length ps) 8) (under (2 ^ 14) ps) (and_parts (eqb (length ps) 8 && under (2 ^ 14) ps) (unused_zero t.count ps) (priced_of t)).0).0
 
+-- each price has at most fourteen bits
+pub small : (t : Tariff) (i : ℕ) → get_or t.prices i 0 < 2 ^ 14
+small t i =
+    let ps = t.prices in
+    under_at (2 ^ 14) ps i (omega arith) (and_parts (eqb (length ps) 8) (under (2 ^ 14) ps) (and_parts (eqb (length ps) 8 && under (2 ^ 14) ps) (unused_zero t.count ps) (priced_of t)).0).1
+
 pub unused : (t : Tariff) (i : ℕ) → t.count ≤ i → get_or t.prices i 0 ≡ 0
 unused t i h =
     let ps = t.prices in
