@@ -24,7 +24,8 @@ fn put_field(memory: &mut [u8], at: usize, field: Field<'_>)
     memory[at + 3..at + 3 + width].copy_from_slice(value);
 }
 
-// Writes the fields of a record over the front of a memory.
+// Writes the fields of a record over the front of a memory, each where the one before it ends. The places are written out: a loop over
+// the fields would carry the place along, and say less of the layout.
 fn put_record(memory: &mut [u8], kept: Record)
     requires { 61 ≤ length memory.old }
     ensures { memory.new ≡ row_of record_form (record_values kept) ++ drop 61 memory.old }
