@@ -1,10 +1,9 @@
 // The data parts of 59 bits that rate prices lie in, each with its fields.
-ghost use Rattle.std.specs.Prelude.{◌≡◌, ◌^◌, ◌<◌, ◌≤◌, true, slice_index};
-ghost use Rattle.token.specs.Widths.{packed, unpacked};
-ghost use Rattle.token.specs.RateLayout.{first_part_widths, second_part_widths, third_part_widths, part_count, FieldsSmall, PricesSmall};
-ghost use Rattle.token.specs.RatePrices.{first_part_fields, second_part_fields, third_part_fields, fits};
+ghost use Rattle.std.specs.Prelude.{◌≡◌, ◌+◌, ◌≤◌, ◌↔◌, IsSome, IfSome, slice_index};
+ghost use Rattle.token.specs.RateLayout.{first_part_widths, second_part_widths, third_part_widths, part_count, size_in_part};
+ghost use Rattle.token.specs.RatePrices.{first_part_fields, second_part_fields, third_part_fields};
 
-use crate::fields;
+use crate::size::Size;
 use crate::tariff::Tariff;
 
 // The one type of data and the one sub-information that rate prices have.
@@ -12,29 +11,56 @@ pub(crate) const TYPE: u64 = 1;
 
 pub(crate) const SUB_INFORMATION: u64 = 1;
 
-// A function for each part, as each has its own widths and values, and one for all three would be a table that is cut up again.
-pub(crate) fn first_widths(size: u8) -> [u32; 10]
-    requires { size ≤ 3 }
-    ensures { result ≡ first_part_widths size }
-{
-    let s = u32::from(size);
-    [1, 4, 4, 6, 4, 3, 2, 11 + s, 11 + s, 13 - 2 * s]
-}
+// Widths and values for each part, as each has its own fields: one table for all three would only be cut up again.
+impl Size {
+    // None for a code above 3.
+    pub(crate) fn new(code: u8) -> Option<Size>
+        ensures taken { IsSome result ↔ (code ≤ 3) }
+        ensures value { IfSome result (λ s. s.code ≡ code) }
+    {
+        if code > 3 {
+            return None;
+        }
+        Some(Size { code })
+    }
 
-pub(crate) fn second_widths(size: u8) -> [u32; 5]
-    requires { size ≤ 3 }
-    ensures { result ≡ second_part_widths size }
-{
-    let s = u32::from(size);
-    [11 + s, 11 + s, 11 + s, 11 + s, 15 - 4 * s]
-}
+    // The size that a first part names.
+    pub(crate) fn named_in(part: u64) -> Size
+        ensures { result.code ≡ size_in_part part }
+    {
+        Size {
+            code: ((part >> 35) % 4) as u8,
+        }
+    }
 
-pub(crate) fn third_widths(size: u8) -> [u32; 3]
-    requires { size ≤ 3 }
-    ensures { result ≡ third_part_widths size }
-{
-    let s = u32::from(size);
-    [11 + s, 11 + s, 37 - 2 * s]
+    // How many bits a price has.
+    pub(crate) fn bits(self) -> u32
+        ensures value { result ≡ 11 + self.code }
+        ensures most { result ≤ 14 }
+    {
+        11 + u32::from(self.code)
+    }
+
+    pub(crate) fn first_widths(self) -> [u32; 10]
+        ensures { result ≡ first_part_widths self.code }
+    {
+        let price = self.bits();
+        [1, 4, 4, 6, 4, 3, 2, price, price, 35 - 2 * price]
+    }
+
+    pub(crate) fn second_widths(self) -> [u32; 5]
+        ensures { result ≡ second_part_widths self.code }
+    {
+        let price = self.bits();
+        [price, price, price, price, 59 - 4 * price]
+    }
+
+    pub(crate) fn third_widths(self) -> [u32; 3]
+        ensures { result ≡ third_part_widths self.code }
+    {
+        let price = self.bits();
+        [price, price, 59 - 2 * price]
+    }
 }
 
 pub(crate) fn part_count(count: u8) -> usize
@@ -48,9 +74,8 @@ pub(crate) fn part_count(count: u8) -> usize
 }
 
 // What the first part holds.
-pub(crate) fn first_values(t: &Tariff, size: u8) -> [u64; 10]
-    requires { fits t.now size ≡ true }
-    ensures { result ≡ first_part_fields t.now size }
+pub(crate) fn first_values(t: &Tariff, size: Size) -> [u64; 10]
+    ensures { result ≡ first_part_fields t.now size.code }
 {
     [
         u64::from(t.complete),
@@ -59,7 +84,7 @@ pub(crate) fn first_values(t: &Tariff, size: u8) -> [u64; 10]
         u64::from(t.month),
         u64::from(t.count - 1),
         u64::from(t.multiplier),
-        u64::from(size),
+        u64::from(size.code),
         u64::from(t.prices[0]),
         u64::from(t.prices[1]),
         0,
@@ -79,30 +104,6 @@ pub(crate) fn third_values(t: &Tariff) -> [u64; 3]
     ensures { result ≡ third_part_fields t.now }
 {
     [u64::from(t.prices[6]), u64::from(t.prices[7]), 0]
-}
-
-pub(crate) fn first_fields(word: u64, size: u8) -> [u64; 10]
-    requires { size ≤ 3 }
-    ensures value { result ≡ unpacked (first_part_widths size) word }
-    ensures small { FieldsSmall result }
-{
-    fields::unpack(&first_widths(size), word)
-}
-
-pub(crate) fn second_fields(word: u64, size: u8) -> [u64; 5]
-    requires { size ≤ 3 }
-    ensures value { result ≡ unpacked (second_part_widths size) word }
-    ensures small { PricesSmall 0 4 result }
-{
-    fields::unpack(&second_widths(size), word)
-}
-
-pub(crate) fn third_fields(word: u64, size: u8) -> [u64; 3]
-    requires { size ≤ 3 }
-    ensures value { result ≡ unpacked (third_part_widths size) word }
-    ensures small { PricesSmall 0 2 result }
-{
-    fields::unpack(&third_widths(size), word)
 }
 
 // The part at a place; one that is not there reads as zero.

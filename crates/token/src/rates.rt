@@ -5,13 +5,13 @@ ghost use Rattle.refusal.specs.declared.Refusal.TheVariants.{RatePrices};
 ghost use Rattle.token.specs.RateLayout.{FieldsSmall, PricesSmall};
 ghost use Rattle.token.specs.RatePrices.{fits, parts, written, holding, held, lawful, spelled, tariff_in, Back, Only, Judged, ReadBack};
 
-use crate::fields::pack;
+use crate::fields::{pack, unpack};
 use crate::limits::within;
 use crate::parts::Parts;
 use crate::rate_layout::{
-    SUB_INFORMATION, TYPE, first_fields, first_values, first_widths, part, part_count,
-    second_fields, second_values, second_widths, third_fields, third_values, third_widths,
+    SUB_INFORMATION, TYPE, first_values, part, part_count, second_values, third_values,
 };
+use crate::size::Size;
 use crate::tariff::Tariff;
 use arrayvec::ArrayVec;
 use refusal::Refusal;
@@ -25,14 +25,14 @@ impl Parts {
 }
 
 // The words of the parts that the prices take.
-fn words_of(t: &Tariff, size: u8) -> ArrayVec<u64, 3>
-    requires { fits t.now size ≡ true }
-    ensures { result.items ≡ parts t.now size }
+fn words_of(t: &Tariff, size: Size) -> ArrayVec<u64, 3>
+    requires { fits t.now size.code ≡ true }
+    ensures { result.items ≡ parts t.now size.code }
 {
     let mut words = ArrayVec::from([
-        pack(&first_widths(size), &first_values(t, size)),
-        pack(&second_widths(size), &second_values(t)),
-        pack(&third_widths(size), &third_values(t)),
+        pack(&size.first_widths(), &first_values(t, size)),
+        pack(&size.second_widths(), &second_values(t)),
+        pack(&size.third_widths(), &third_values(t)),
     ]);
     words.truncate(part_count(t.count));
     words
@@ -43,7 +43,8 @@ pub fn rate_parts(t: &Tariff, size: u8) -> Option<Parts>
     ensures value { holding result ≡ written t.now size }
     ensures back { ReadBack t.now result }
 {
-    if size > 3 || !within(11 + u32::from(size), &t.prices) {
+    let size = Size::new(size)?;
+    if !within(size.bits(), &t.prices) {
         return None;
     }
     let words = words_of(t, size);
@@ -90,10 +91,10 @@ fn tariff_in(parts: &[u64]) -> Option<Tariff>
     ensures { result ≡ tariff_in parts.now }
 {
     let word = part(parts, 0);
-    let size = ((word >> 35) % 4) as u8;
-    let first = first_fields(word, size);
-    let second = second_fields(part(parts, 1), size);
-    let third = third_fields(part(parts, 2), size);
+    let size = Size::named_in(word);
+    let first = unpack(&size.first_widths(), word);
+    let second = unpack(&size.second_widths(), part(parts, 1));
+    let third = unpack(&size.third_widths(), part(parts, 2));
     if !is_lawful(parts.len(), &first, &second, &third) {
         return None;
     }

@@ -7,10 +7,10 @@ use Rattle.token.proofs.rates.rate_parts.Goals as goal
 
 pub invariant_of-result : goal.invariant_of-result
 invariant_of-result c =
-    let f : fits c.args.t.now c.args.size ≡ true = search rules in
-    record { ok = T_from_true _ (ap carriable c.words_of-words.ensures ∙ parts-carriable c.args.t.now c.args.size f) }
+    let f : fits c.args.t.now c.in_ok-size.size.code ≡ true = search rules in
+    record { ok = T_from_true _ (ap carriable c.words_of-words.ensures ∙ parts-carriable c.args.t.now c.in_ok-size.size.code f) }
 
 pub returns-clause-back : goal.returns-clause-back
 returns-clause-back c =
-    let f : fits c.args.t.now c.args.size ≡ true = search rules in
-    ap tariff_in c.words_of-words.ensures ∙ back c.args.t.now c.args.size f
+    let f : fits c.args.t.now c.in_ok-size.size.code ≡ true = search rules in
+    ap tariff_in c.words_of-words.ensures ∙ back c.args.t.now c.in_ok-size.size.code f
