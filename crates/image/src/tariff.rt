@@ -20,6 +20,7 @@ fn prices(value: &[u8]) -> [u16; 8]
     array(pairs).map(u16::from_be_bytes)
 }
 
+// By hand, as std makes no bool of a byte.
 fn flag(byte: u8) -> Option<bool>
     ensures { result ≡ flag_of byte }
 {

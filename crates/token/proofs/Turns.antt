@@ -1,16 +1,10 @@
--- One field more, from the front for packing and from the back for unpacking. Assumes nothing.
-use Rattle.std.proofs.Common.{◌≡◌, ℕ, zero, suc, ◌+◌, ◌*◌, ◌/◌, ◌%◌, ◌^◌, ◌<◌, ◌≤◌, ◌⊎◌, inl, inr, List, [], ◌∷◌, length, get_or, drop, set, sym, ap, ◌∙◌, mod-eq_of_lt, mul_assoc, add-mul, mul-le-mul_left, div-one, arith}
+-- One field more, from the front for packing (turn) and from the back for unpacking (turn_back). Assumes nothing.
+use Rattle.std.proofs.Common.{◌≡◌, ℕ, ◌+◌, ◌*◌, ◌/◌, ◌%◌, ◌^◌, ◌<◌, ◌≤◌, ◌⊎◌, inl, inr, List, [], ◌∷◌, ◌++◌, length, drop, set, sym, ap, ◌∙◌, mod-eq_of_lt, mul_assoc, append_assoc, length-append, add-mul, mul-le-mul_left, div-one, arith}
 use native.Mathlib.Nat.{pow-le-pow_right}
 use Rattle.std.proofs.lemmas.Nat.{pow_pos, pow-add, shr-shr}
-use Rattle.std.proofs.lemmas.List.{drop_more, drop_all, drop-set, length-set}
+use Rattle.std.proofs.lemmas.List.{drop_all, drop-set, length-set, append-nil}
 use Rattle.token.specs.Widths.{total, packed, unpacked, Fit}
 use Rattle.token.proofs.Packs.{packs}
-
--- no field is wider than all of them together
-pub one_of : (ws : List ℕ) (i : ℕ) → get_or ws i 0 ≤ total ws
-one_of [] i = omega arith
-one_of (w ∷ ws) zero = omega arith
-one_of (w ∷ ws) (suc i) = omega (arith, one_of ws i)
 
 -- what is packed already, and what is left: widths and values of fields that are still to come
 pub record Left (ws vs : List ℕ) (whole word : ℕ) : Type 0 where
@@ -49,29 +43,52 @@ left_none (w ∷ ws) [] whole word l e = absurd l.fit
 left_none (w ∷ ws) (v ∷ vs) whole word l (inl e) = absurd (omega arith)
 left_none (w ∷ ws) (v ∷ vs) whole word l (inr e) = absurd (omega arith)
 
--- what is unpacked already, from the back
-pub record Behind (ws fs : List ℕ) (n i left : ℕ) : Type 0 where
+-- what is unpacked already, from the back, where some widths are still to come
+pub record Behind (ws fs front : List ℕ) (n left : ℕ) : Type 0 where
+  pub after : List ℕ
+  pub split : front ++ after ≡ ws
   pub long : length fs ≡ length ws
-  pub rest : left ≡ n / 2 ^ total (drop i ws)
-  pub fields : drop i fs ≡ unpacked (drop i ws) n
+  pub rest : left ≡ n / 2 ^ total after
+  pub fields : drop (length front) fs ≡ unpacked after n
 
-pub behind_none : (ws fs : List ℕ) (n i : ℕ) → length fs ≡ length ws → length ws ≤ i → Behind ws fs n i n
-behind_none ws fs n i l h = record {
+pub behind_none : (ws fs : List ℕ) (n : ℕ) → length fs ≡ length ws → Behind ws fs ws n n
+behind_none ws fs n l = record {
+  after = [];
+  split = append-nil ws;
   long = l;
-  rest = rw (drop_all i ws h) (sym (div-one n));
-  fields = rw (drop_all i ws h) (drop_all i fs (omega arith));
+  rest = sym (div-one n);
+  fields = drop_all (length ws) fs (omega arith);
 }
 
-pub behind_more : (ws fs : List ℕ) (n i left : ℕ) → i < length ws → Behind ws fs n (i + 1) left → Behind ws (set fs i (left % 2 ^ get_or ws i 0)) n i (left / 2 ^ get_or ws i 0)
-behind_more ws fs n i left h b =
-    let w = get_or ws i 0 in
-    let t = total (drop (i + 1) ws) in
+part_of_total : (xs ys : List ℕ) → total ys ≤ total (xs ++ ys)
+part_of_total [] ys = omega arith
+part_of_total (x ∷ xs) ys = omega (arith, part_of_total xs ys)
+
+-- a turn of unpacking, at the last width that is still to come
+pub record Back (ws fs front : List ℕ) (n left w i : ℕ) : Type 0 where
+  pub narrow : w ≤ total ws
+  pub inside : i < length fs
+  pub next : Behind ws (set fs i (left % 2 ^ w)) front n (left / 2 ^ w)
+
+pub turn_back : (ws fs front next : List ℕ) (n left w i : ℕ) → front ≡ next ++ w ∷ [] → i ≡ length next → Behind ws fs front n left → Back ws fs next n left w i
+turn_back ws fs front next n left w i e at b =
+    let t = total b.after in
+    let split : next ++ (w ∷ b.after) ≡ ws = sym (append_assoc next (w ∷ []) b.after) ∙ ap (λ (xs : List ℕ). xs ++ b.after) (sym e) ∙ b.split in
+    let whole : total (next ++ (w ∷ b.after)) ≡ total ws = ap total split in
+    let one : length front ≡ i + 1 = ap length e ∙ length-append next (w ∷ []) ∙ omega arith in
+    let all : length (next ++ (w ∷ b.after)) ≡ length ws = ap length split in
     let l = b.long in
-    let k : i < length fs = omega arith in
-    let part : left % 2 ^ w ≡ n / 2 ^ t % 2 ^ w = ap (λ x. x % 2 ^ w) b.rest in
-    let here : left / 2 ^ w ≡ n / 2 ^ (w + t) = ap (λ x. x / 2 ^ w) b.rest ∙ shr-shr n t w ∙ ap (λ x. n / 2 ^ x) (omega arith) in
+    let k : i < length fs = omega (arith, all, length-append next (w ∷ b.after)) in
+    let part : left % 2 ^ w ≡ n / 2 ^ t % 2 ^ w = ap (λ (x : ℕ). x % 2 ^ w) b.rest in
+    let tail : drop (i + 1) fs ≡ unpacked b.after n = ap (λ (j : ℕ). drop j fs) (sym one) ∙ b.fields in
     record {
-      long = length-set fs i (left % 2 ^ w) ∙ l;
-      rest = rw (drop_more ws i 0 h) here;
-      fields = rw (drop_more ws i 0 h) (drop-set fs i (left % 2 ^ w) k ∙ (λ j. part j ∷ b.fields j));
+      narrow = omega (arith, whole, part_of_total next (w ∷ b.after));
+      inside = k;
+      next = record {
+        after = w ∷ b.after;
+        split = split;
+        long = length-set fs i (left % 2 ^ w) ∙ l;
+        rest = ap (λ (x : ℕ). x / 2 ^ w) b.rest ∙ shr-shr n t w ∙ ap (λ (x : ℕ). n / 2 ^ x) (omega arith);
+        fields = ap (λ (j : ℕ). drop j (set fs i (left % 2 ^ w))) (sym at) ∙ drop-set fs i (left % 2 ^ w) k ∙ (λ j. part j ∷ tail j);
+      };
     }

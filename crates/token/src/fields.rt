@@ -24,10 +24,9 @@ pub(crate) fn unpack<const N: usize>(widths: &[u32; N], word: u64) -> [u64; N]
 {
     let mut fields = [0; N];
     let mut left = word;
-    // By index: of an array that an iterator of two slices wrote, a proof knows no element.
-    for i in (0..N).rev() {
-        fields[i] = left % (1 << widths[i]);
-        left >>= widths[i];
+    for (i, width) in widths.iter().enumerate().rev() {
+        fields[i] = left % (1 << *width);
+        left >>= *width;
     }
     fields
 }

@@ -1,6 +1,6 @@
 use Rattle.std.proofs.Common.{◌≡◌, sym, ap, ◌∙◌}
 use Rattle.token.specs.Widths.{unpacked}
-use Rattle.token.specs.RateLayout.{first_part_widths, second_part_widths, third_part_widths, PricesSmall, FieldsSmall, size_in_part}
+use Rattle.token.specs.RateLayout.{first_part_widths, second_part_widths, third_part_widths}
 use Rattle.token.proofs.Fitting.{first_small, second_small, third_small}
 use Rattle.token.proofs.ReadBack.{refused_is, read_is}
 use Rattle.token.proofs.rates.tariff_in.Goals as goal
