@@ -12,30 +12,19 @@ pub(crate) const UNUSED: u8 = 170;
 
 // 0 where a call was performed, else the number of its refusal.
 fn number<T: Drop>(answer: Result<T, Refusal>) -> u8 {
-    match answer {
-        Ok(_) => 0,
-        Err(refusal) => refusal.number(),
-    }
+    answer.err().map_or(0, |refusal| refusal.number())
 }
 
 fn all_unused(bytes: &[u8]) -> bool {
-    for b in bytes {
-        if *b != UNUSED {
-            return false;
-        }
-    }
-    true
+    bytes.iter().all(|b| *b == UNUSED)
 }
 
 // How many of the shorter memories that begin an image read as ill-formed.
-fn short_ill_formed(image: &[u8; SIZE]) -> u32 {
-    let mut count: u32 = 0;
-    for n in 0..SIZE {
-        if read_image(&image[0..n]).is_none() {
-            count = count.saturating_add(1);
-        }
-    }
-    count
+fn short_ill_formed(image: &[u8; SIZE]) -> usize {
+    (0..SIZE)
+        .filter_map(|n| image.get(..n))
+        .filter(|short| read_image(short).is_none())
+        .count()
 }
 
 pub(crate) fn show_fitting(rt: &HostRuntime) -> anyhow::Result<()> {

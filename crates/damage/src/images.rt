@@ -1,6 +1,6 @@
 // Images with one byte damaged.
 use crate::fitting::{SIZE, UNUSED};
-use anyhow::anyhow;
+use anyhow::{Context, anyhow};
 use image::content::Image;
 use image::format::format_record;
 use image::reading::read_image;
@@ -9,7 +9,7 @@ use token::tariff::Tariff;
 use window::Window;
 
 // What the images with one byte damaged read as.
-#[derive(Clone, Copy)]
+#[derive(Clone, Copy, Default)]
 struct Found {
     ill_formed: u32,
     // Read as the record that the bytes spell.
@@ -25,14 +25,14 @@ fn mixed(digest: u64, n: u64) -> u64 {
 }
 
 fn tariff_digest(digest: u64, tariff: Tariff) -> u64 {
-    let mut d = mixed(digest, u64::from(tariff.complete));
-    d = mixed(d, u64::from(tariff.month));
-    d = mixed(d, u64::from(tariff.multiplier));
-    d = mixed(d, u64::from(tariff.count));
-    for price in tariff.prices {
-        d = mixed(d, u64::from(price));
-    }
-    d
+    let head = [
+        u64::from(tariff.complete),
+        u64::from(tariff.month),
+        u64::from(tariff.multiplier),
+        u64::from(tariff.count),
+    ];
+    let prices = tariff.prices.map(u64::from);
+    head.into_iter().chain(prices).fold(digest, mixed)
 }
 
 // A number for all that an image tells.
@@ -54,35 +54,24 @@ fn digest_of(digest: u64, image: Image) -> u64 {
 // Whether the bytes begin with the image of what was read from them.
 fn spells(bytes: &[u8], image: Image) -> bool {
     let mut again = [0; SIZE];
-    if format_record(&mut again, image.kept, image.writes).is_err() {
-        return false;
-    }
-    bytes.starts_with(&again)
+    format_record(&mut again, image.kept, image.writes).is_ok() && bytes.starts_with(&again)
 }
 
 // Each other value of one byte. The memory is left as it was.
 fn damaged_at(memory: &mut [u8], at: usize) -> Found {
-    let mut found = Found {
-        ill_formed: 0,
-        told: 0,
-        mistaken: 0,
-        digest: 0,
-    };
-    if at >= memory.len() {
+    let mut found = Found::default();
+    let Some(was) = memory.get(at).copied() else {
         return found;
-    }
-    let was = memory[at];
-    for value in 0..=255 {
+    };
+    for value in (0..=255).filter(|value| *value != was) {
         memory[at] = value;
-        if value != was {
-            match read_image(memory) {
-                None => found.ill_formed = found.ill_formed.saturating_add(1),
-                Some(image) if spells(memory, image) => {
-                    found.told = found.told.saturating_add(1);
-                    found.digest = digest_of(found.digest, image);
-                }
-                Some(_) => found.mistaken = found.mistaken.saturating_add(1),
+        match read_image(memory) {
+            None => found.ill_formed = found.ill_formed.saturating_add(1),
+            Some(image) if spells(memory, image) => {
+                found.told = found.told.saturating_add(1);
+                found.digest = digest_of(found.digest, image);
             }
+            Some(_) => found.mistaken = found.mistaken.saturating_add(1),
         }
     }
     memory[at] = was;
@@ -112,18 +101,14 @@ fn full_record() -> Option<Record> {
 
 fn show_record(rt: &HostRuntime, kept: Record) -> anyhow::Result<()> {
     let mut memory = [UNUSED; SIZE];
-    if format_record(&mut memory, kept, 962).is_err() {
-        return Err(anyhow!("the memory is too short"));
-    }
+    format_record(&mut memory, kept, 962).map_err(|_| anyhow!("the memory is too short"))?;
     show_each(rt, &mut memory)
 }
 
 pub(crate) fn show_images(rt: &HostRuntime) -> anyhow::Result<()> {
     rt.println("an image of a new meter")?;
     show_record(rt, Record::opening(500))?;
-    let Some(kept) = full_record() else {
-        return Err(anyhow!("the record is outside its limits"));
-    };
+    let kept = full_record().context("the record is outside its limits")?;
     rt.println("an image with each part")?;
     show_record(rt, kept)
 }

@@ -15,14 +15,12 @@ use cut::Cut;
 pub fn first<'a>(bytes: &'a [u8]) -> Option<Cut<'a>>
     ensures { told result ≡ cut bytes.now }
 {
+    // The form that the project requires: one pattern takes tag, two bytes of length and rest.
     let [tag, high, low, rest @ ..] = bytes else {
         return None;
     };
-    let width = *high as usize * 256 + *low as usize;
-    if rest.len() < width {
-        return None;
-    }
-    let (value, rest) = rest.split_at(width);
+    let width = usize::from(u16::from_be_bytes([*high, *low]));
+    let (value, rest) = rest.split_at_checked(width)?;
     Some(Cut {
         tag: *tag,
         value,

@@ -1,6 +1,7 @@
--- A tariff in twenty bytes: complete, month, multiplier code, count, and eight prices of two bytes. flag_of; pair_at, pairs,
+-- A tariff in twenty bytes: complete, month, multiplier code, count, and eight prices of two bytes. flag_of; pairs,
 -- halves, numbers of two bytes; all_zero; tariff_in, the tariff that bytes tell; tariff_bytes, the bytes of a tariff.
-use Rattle.std.specs.Prelude.{ℕ, ◌+◌, ◌*◌, ◌/◌, ◌%◌, Bool, true, false, cond, ◌&&◌, List, [], ◌∷◌, drop, replicate, Some, None, Option, ◌==◌, slice_index}
+use Rattle.std.specs.Prelude.{ℕ, ◌+◌, ◌*◌, ◌/◌, ◌%◌, Bool, true, false, cond, List, [], ◌∷◌, drop, replicate, Some, None, Option, ◌==◌, slice_index}
+use Rattle.std.specs.List.{list_all}
 use Rattle.token.specs.Tariffs.{tariff_of}
 use Rattle.token.specs.declared.tariff.Tariff.{Tariff}
 use Rattle.fields.specs.Options.{and_then}
@@ -8,10 +9,6 @@ use Rattle.fields.specs.Options.{and_then}
 -- 0 is no, 1 is yes
 abbrev pub flag_of : ℕ → Option Bool
 flag_of b = cond (b == 0) (Some false) (cond (b == 1) (Some true) None)
-
--- the number in two bytes from a place on
-abbrev pub pair_at : List ℕ → ℕ → ℕ
-pair_at v i = slice_index v i * 256 + slice_index v (i + 1)
 
 -- the numbers in two bytes each
 abbrev pub pairs : List ℕ → List ℕ
@@ -25,8 +22,7 @@ halves [] = []
 halves (p ∷ ps) = p / 256 ∷ p % 256 ∷ halves ps
 
 abbrev pub all_zero : List ℕ → Bool
-all_zero [] = true
-all_zero (b ∷ bytes) = b == 0 && all_zero bytes
+all_zero bytes = list_all (λ b. b == 0) bytes
 
 -- A count of 0 tells that there is no tariff, and the other bytes are then zero. Else each value keeps its limits.
 abbrev pub tariff_in : List ℕ → Option (Option Tariff)

@@ -4,7 +4,8 @@ ghost use Rattle.image.specs.Fields.{tag_of, width_of, value_of, next_of, told_n
 
 use fields::first;
 
-// A field: which one it is, by its tag, and the part of the image that holds its value.
+// A field: which one it is, by its tag, and the part of the image that holds its value. The project requires this form: an enum
+// of the fields, each case borrowing the bytes of its value.
 #[derive(Clone, Copy)]
 pub enum Field<'a> {
     Credit(&'a [u8]),

@@ -4,9 +4,9 @@ ghost use Rattle.image.specs.Forms.{record_form};
 ghost use Rattle.image.specs.Images.{record_in, decoded, image_over};
 ghost use Rattle.image.specs.Chains.{value_at, told_value, chain_of, values_of, told_fields, Widths};
 
+use crate::array::array;
 use crate::content::Image;
 use crate::field::{Field, next_field};
-use crate::number::number_in;
 use crate::tariff::tariff_in;
 use record::Record;
 use window::Window;
@@ -22,7 +22,7 @@ struct RecordFields<'a> {
     rest: &'a [u8],
 }
 
-// Just these fields, in their order.
+// Just these fields, in their order. A let-else for each, as each is another case of the enum, and `?` tells no cases apart.
 fn record_fields<'a>(bytes: &'a [u8]) -> Option<RecordFields<'a>>
     ensures value { told_fields result ≡ chain_of record_form bytes.now }
     ensures widths { IfSome result Widths }
@@ -63,17 +63,20 @@ fn writes_field<'a>(bytes: &'a [u8]) -> Option<&'a [u8]>
     Some(writes)
 }
 
+#[tactic(auto, using(crate::proofs::Numbers::be_two, crate::proofs::Numbers::be_four, crate::proofs::Numbers::be_sixteen))]
 // The record that the fields of a record tell. None where a mark or the tariff is outside its limits.
 fn record_in(fields: RecordFields<'_>) -> Option<Record>
     requires { Widths fields }
     ensures { result ≡ record_in (values_of fields.entry) }
 {
-    let window = Window::new(number_in(fields.highest) as u32, number_in(fields.marks))?;
+    let highest = u32::from_be_bytes(array(fields.highest));
+    let marks = u128::from_be_bytes(array(fields.marks));
+    let window = Window::new(highest, marks)?;
     let tariff = tariff_in(fields.tariff)?;
     Some(Record::from_parts(
-        number_in(fields.credit) as u32,
+        u32::from_be_bytes(array(fields.credit)),
         window,
-        number_in(fields.index) as u16,
+        u16::from_be_bytes(array(fields.index)),
         tariff,
     ))
 }
@@ -90,6 +93,6 @@ pub fn read_image(memory: &[u8]) -> Option<Image>
     let kept = record_in(fields)?;
     Some(Image {
         kept,
-        writes: number_in(writes) as u32,
+        writes: u32::from_be_bytes(array(writes)),
     })
 }

@@ -18,12 +18,14 @@ fn put_field(memory: &mut [u8], at: usize, field: Field<'_>)
 {
     let value = field.value();
     let width = value.len();
-    let head = [field.tag(), (width / 256) as u8, (width % 256) as u8];
+    let [high, low] = (width as u16).to_be_bytes();
+    let head = [field.tag(), high, low];
     memory[at..at + 3].copy_from_slice(&head);
     memory[at + 3..at + 3 + width].copy_from_slice(value);
 }
 
-// Writes the fields of a record over the front of a memory.
+// Writes the fields of a record over the front of a memory, each where the one before it ends. The places are written out: a loop over
+// the fields would carry the place along, and say less of the layout.
 fn put_record(memory: &mut [u8], kept: Record)
     requires { 61 ≤ length memory.old }
     ensures { memory.new ≡ row_of record_form (record_values kept) ++ drop 61 memory.old }

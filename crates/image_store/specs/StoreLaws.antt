@@ -20,7 +20,7 @@ unfolding image_over
 over_length r n bytes h =
     omega (arith, length-append (row_of image_form (image_values r n)) (drop 68 bytes), row_long image_form (image_values r n) (fit_image r n), length-drop 68 bytes)
 
-some_left : (o : Option Image) → 0 < writes_or o → (m : Image) × (o ≡ Some m)
+pub some_left : (o : Option Image) → 0 < writes_or o → (m : Image) × (o ≡ Some m)
 some_left None h = absurd (omega arith)
 some_left (Some m) h = (m, refl)
 

@@ -47,17 +47,11 @@ impl Store for ImageStore {
     ghost least = { image_least };
 
     fn read(&mut self) -> Record {
-        match read_image(self.memory.as_slice()) {
-            Some(image) => image.kept,
-            None => Record::opening(0),
-        }
+        read_image(self.memory.as_slice()).map_or(Record::opening(0), |image| image.kept)
     }
 
     fn writes_left(&mut self) -> u32 {
-        match read_image(self.memory.as_slice()) {
-            Some(image) => image.writes,
-            None => 0,
-        }
+        read_image(self.memory.as_slice()).map_or(0, |image| image.writes)
     }
 
     // Every byte of the memory is told: the image of the record, with one write less, and the bytes after it as they were.
@@ -66,12 +60,10 @@ impl Store for ImageStore {
         ensures after { self.new ≡ (if nat_lt 0 (image_writes self.old) then image_after self.old r else self.old) }
         ensures bytes { self.new.memory.items ≡ (if nat_lt 0 (image_writes self.old) then bytes_after self.old r else self.old.memory.items) }
     {
-        let Some(image) = read_image(self.memory.as_slice()) else {
-            return false;
-        };
-        if image.writes == 0 {
+        let left = self.writes_left();
+        if left == 0 {
             return false;
         }
-        format_record(self.memory.as_mut_slice(), r, image.writes - 1).is_ok()
+        format_record(self.memory.as_mut_slice(), r, left - 1).is_ok()
     }
 }

@@ -6,14 +6,15 @@ use store::Store;
 
 // How far a write-behind layer runs ahead: by fewer writes than its length, each of which lowered the credit.
 pub fn lag_law<S: Store>() -> u8
-    ensures { LagLaw S.Store.kept S.Store.writes S.Store.after }
+    ensures { LagLaw S.kept S.writes S.after }
 {
     0
 }
 
 // A quota passes one write less after each that is done, whatever the store below makes of it.
+#[tactic(auto, using(crate::proofs::Passing::passing))]
 pub fn passing_law<S: Store>() -> u8
-    ensures { PassingLaw S.Store.after }
+    ensures { PassingLaw S.after }
 {
     0
 }

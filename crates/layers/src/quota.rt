@@ -27,23 +27,23 @@ impl<S: Store> WriteQuota<S> {
     pub fn into_below(self) -> S
         ensures { result ≡ self.below }
     {
-        let WriteQuota { left: _, below } = self;
+        let WriteQuota { below, .. } = self;
         below
     }
 }
 
 impl<S: Store> Store for WriteQuota<S> {
-    ghost kept = { quota_kept S.Store.kept };
+    ghost kept = { quota_kept S.kept };
 
-    ghost writes = { quota_writes S.Store.writes };
+    ghost writes = { quota_writes S.writes };
 
-    ghost after = { quota_after S.Store.after };
+    ghost after = { quota_after S.after };
 
-    ghost holds = { quota_holds S.Store.kept S.Store.writes S.Store.after S.Store.holds };
+    ghost holds = { quota_holds S.kept S.writes S.after S.holds };
 
-    ghost most = { quota_most S.Store.kept S.Store.writes S.Store.after S.Store.most };
+    ghost most = { quota_most S.kept S.writes S.after S.most };
 
-    ghost least = { quota_least S.Store.kept S.Store.writes S.Store.after S.Store.least };
+    ghost least = { quota_least S.kept S.writes S.after S.least };
 
     fn read(&mut self) -> Record {
         self.below.read()

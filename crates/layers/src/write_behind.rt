@@ -38,9 +38,9 @@ impl<S> WriteBehind<S> {
 impl<S: Store> WriteBehind<S> {
     // Writes a record below that was only kept. Without one, and where below has no writes left, nothing changes.
     pub fn flush(&mut self)
-        ensures after { self.new ≡ flushed S.Store.writes S.Store.after self.old }
-        ensures same { behind_kept S.Store.kept S.Store.writes self.new ≡ behind_kept S.Store.kept S.Store.writes self.old }
-        ensures below { S.Store.kept self.new.below ≡ behind_kept S.Store.kept S.Store.writes self.old }
+        ensures after { self.new ≡ flushed S.writes S.after self.old }
+        ensures same { behind_kept S.kept S.writes self.new ≡ behind_kept S.kept S.writes self.old }
+        ensures below { S.kept self.new.below ≡ behind_kept S.kept S.writes self.old }
     {
         if let Some(kept) = self.kept {
             if self.below.write(kept.newest) {
@@ -53,38 +53,28 @@ impl<S: Store> WriteBehind<S> {
     pub fn into_below(self) -> S
         ensures { result ≡ self.below }
     {
-        let WriteBehind {
-            length: _,
-            kept: _,
-            below,
-        } = self;
+        let WriteBehind { below, .. } = self;
         below
     }
 }
 
 impl<S: Store> Store for WriteBehind<S> {
-    ghost kept = { behind_kept S.Store.kept S.Store.writes };
+    ghost kept = { behind_kept S.kept S.writes };
 
-    ghost writes = { behind_writes S.Store.writes };
+    ghost writes = { behind_writes S.writes };
 
-    ghost after = { behind_after S.Store.kept S.Store.writes S.Store.after };
+    ghost after = { behind_after S.kept S.writes S.after };
 
-    ghost holds = { behind_holds S.Store.kept S.Store.writes S.Store.after S.Store.holds };
+    ghost holds = { behind_holds S.kept S.writes S.after S.holds };
 
-    ghost most = { behind_most S.Store.kept S.Store.writes S.Store.after S.Store.most };
+    ghost most = { behind_most S.kept S.writes S.after S.most };
 
-    ghost least = { behind_least S.Store.kept S.Store.writes S.Store.after S.Store.least };
+    ghost least = { behind_least S.kept S.writes S.after S.least };
 
     fn read(&mut self) -> Record {
         match self.kept {
-            Some(kept) => {
-                if self.below.writes_left() > 0 {
-                    kept.newest
-                } else {
-                    self.below.read()
-                }
-            }
-            None => self.below.read(),
+            Some(kept) if self.below.writes_left() > 0 => kept.newest,
+            _ => self.below.read(),
         }
     }
 
@@ -96,6 +86,7 @@ impl<S: Store> Store for WriteBehind<S> {
         if self.below.writes_left() == 0 {
             return false;
         }
+        // A match, as map_or_else would be given two closures, one of them with the store below.
         let (credit, count) = match self.kept {
             Some(kept) => (kept.newest.credit, kept.count),
             None => (self.below.read().credit, 0),

@@ -20,10 +20,6 @@ pub(crate) struct Day {
     pub(crate) writes: u32,
 }
 
-pub(crate) fn meter_over<S>(settings: Settings, store: S) -> BenchMeter<S> {
-    FittedMeter::fit(settings, store, Clear, ByteSum).into_service()
-}
-
 // The answer to a line, as text.
 pub(crate) fn reply<S: Store>(
     meter: &mut BenchMeter<S>,
@@ -38,20 +34,29 @@ pub(crate) fn reply<S: Store>(
     answer_line(heap, answer, meter.credit())
 }
 
-pub(crate) fn day_over<S: Store + Drop>(
-    heap: Global,
-    settings: Settings,
-    store: S,
-    lines: &[Vec<u8>],
-) -> Result<Day, AllocError> {
-    let mut meter = meter_over(settings, store);
-    let mut answers = Vec::new(heap);
-    for line in lines {
-        answers.push(reply(&mut meter, line.as_slice(), heap)?)?;
+// What each day is run with: the settings of its meter, and the lines that are keyed in.
+#[derive(Clone, Copy)]
+pub(crate) struct Bench<'a> {
+    pub(crate) heap: Global,
+    pub(crate) settings: Settings,
+    pub(crate) lines: &'a [Vec<u8>],
+}
+
+impl<'a> Bench<'a> {
+    pub(crate) fn meter_over<S>(&self, store: S) -> BenchMeter<S> {
+        FittedMeter::fit(self.settings, store, Clear, ByteSum).into_service()
     }
-    Ok(Day {
-        answers,
-        credit: meter.credit(),
-        writes: meter.writes_left(),
-    })
+
+    pub(crate) fn day_over<S: Store + Drop>(&self, store: S) -> Result<Day, AllocError> {
+        let mut meter = self.meter_over(store);
+        let mut answers = Vec::new(self.heap);
+        for line in self.lines {
+            answers.push(reply(&mut meter, line.as_slice(), self.heap)?)?;
+        }
+        Ok(Day {
+            answers,
+            credit: meter.credit(),
+            writes: meter.writes_left(),
+        })
+    }
 }

@@ -5,7 +5,7 @@ mod day;
 mod piles;
 
 use anyhow::anyhow;
-use day::{Day, day_over};
+use day::{Bench, Day};
 use layers::length::Length;
 use piles::{Supply, days_over, show_length};
 use sealing::settings::{SettingValues, Settings};
@@ -13,21 +13,17 @@ use std::io::{BufRead, BufReader};
 use store::PlainStore;
 
 fn bench_settings() -> anyhow::Result<Settings> {
-    let Ok(settings) = Settings::new(SettingValues {
+    Settings::new(SettingValues {
         supplier: 1,
         meter: 2,
         multipliers: [1, 10, 100, 1000],
         ceiling: 3400,
-    }) else {
-        return Err(anyhow!("the settings are outside their limits"));
-    };
-    Ok(settings)
+    })
+    .map_err(|_| anyhow!("the settings are outside their limits"))
 }
 
 fn supply_of(image: u32, below: u32, k: u8) -> anyhow::Result<Supply> {
-    let Ok(length) = Length::new(k) else {
-        return Err(anyhow!("the length is outside its limits"));
-    };
+    let length = Length::new(k).map_err(|_| anyhow!("the length is outside its limits"))?;
     Ok(Supply {
         image,
         below,
@@ -77,17 +73,21 @@ fn show(rt: &HostRuntime) -> anyhow::Result<()> {
     for line in BufReader::new(heap, rt.stdin())?.split(heap, b'\n') {
         lines.push(line?)?;
     }
-    let settings = bench_settings()?;
-    let plain = day_over(heap, settings, PlainStore::blank(), &lines)?;
-    let many = days_over(heap, settings, &lines, supply_of(1000, 1000, 4)?)?;
-    let few = days_over(heap, settings, &lines, supply_of(12, 9, 4)?)?;
+    let bench = Bench {
+        heap,
+        settings: bench_settings()?,
+        lines: &lines,
+    };
+    let plain = bench.day_over(PlainStore::blank())?;
+    let many = days_over(&bench, supply_of(1000, 1000, 4)?)?;
+    let few = days_over(&bench, supply_of(12, 9, 4)?)?;
     rt.println("memories")?;
     show_answers(rt, &plain, &many, &few)?;
     show_standing(rt, "many writes:", &many)?;
     show_standing(rt, "few writes:", &few)?;
     for k in [1, 2, 3, 64] {
         print!(rt; "length {k}: ")?;
-        show_length(rt, settings, &lines, supply_of(1000, 1000, k)?)?;
+        show_length(rt, &bench, supply_of(1000, 1000, k)?)?;
     }
     Ok(())
 }

@@ -1,12 +1,11 @@
 // The same day over memories of each kind.
-use crate::day::{Day, day_over, meter_over, reply};
+use crate::day::{Bench, Day, reply};
 use anyhow::anyhow;
 use image::format::format;
 use image_store::ImageStore;
 use layers::length::Length;
 use layers::quota::WriteQuota;
 use layers::write_behind::WriteBehind;
-use sealing::settings::Settings;
 use std::alloc::Global;
 use store::{PlainStore, Store};
 
@@ -24,9 +23,7 @@ pub(crate) struct Supply {
 // A formatted memory of eighty bytes, of which an image takes 68.
 fn image_store(heap: Global, writes: u32) -> anyhow::Result<ImageStore> {
     let mut memory = vec![in heap; UNUSED; 80]?;
-    if format(memory.as_mut_slice(), 0, writes).is_err() {
-        return Err(anyhow!("the memory is too short"));
-    }
+    format(memory.as_mut_slice(), 0, writes).map_err(|_| anyhow!("the memory is too short"))?;
     Ok(ImageStore::open(memory))
 }
 
@@ -36,43 +33,37 @@ fn behind_image(heap: Global, supply: Supply) -> anyhow::Result<WriteBehind<Imag
 
 // An image; a write-behind layer over an image; a quota over a write-behind layer over an image; a write-behind layer over
 // a quota over a plain store.
-pub(crate) fn days_over(
-    heap: Global,
-    settings: Settings,
-    lines: &[Vec<u8>],
-    supply: Supply,
-) -> anyhow::Result<Vec<Day>> {
+pub(crate) fn days_over(bench: &Bench<'_>, supply: Supply) -> anyhow::Result<Vec<Day>> {
+    let heap = bench.heap;
     let image = image_store(heap, supply.image)?;
     let behind = behind_image(heap, supply)?;
     let quota = WriteQuota::over(behind_image(heap, supply)?, supply.image);
     let passed = WriteQuota::over(PlainStore::blank(), supply.below);
-    let mut days = Vec::new(heap);
-    days.push(day_over(heap, settings, image, lines)?)?;
-    days.push(day_over(heap, settings, behind, lines)?)?;
-    days.push(day_over(heap, settings, quota, lines)?)?;
     let behind_quota = WriteBehind::over(passed, supply.length);
-    days.push(day_over(heap, settings, behind_quota, lines)?)?;
-    Ok(days)
+    Ok(vec![in heap;
+        bench.day_over(image)?,
+        bench.day_over(behind)?,
+        bench.day_over(quota)?,
+        bench.day_over(behind_quota)?,
+    ]?)
 }
 
 // The day over a write-behind layer of this length: the credit that it means and the writes left, and both of the store
 // below after the layer is flushed.
 pub(crate) fn show_length(
     rt: &HostRuntime,
-    settings: Settings,
-    lines: &[Vec<u8>],
+    bench: &Bench<'_>,
     supply: Supply,
 ) -> anyhow::Result<()> {
-    let heap = rt.alloc();
-    let mut meter = meter_over(settings, behind_image(heap, supply)?);
-    for line in lines {
-        let _ = reply(&mut meter, line.as_slice(), heap)?;
+    let mut meter = bench.meter_over(behind_image(bench.heap, supply)?);
+    for line in bench.lines {
+        let _ = reply(&mut meter, line.as_slice(), bench.heap)?;
     }
     let meant = meter.credit();
     let left = meter.writes_left();
     let mut layer = meter.into_parts().store;
     layer.flush();
-    let mut below = meter_over(settings, layer.into_below());
+    let mut below = bench.meter_over(layer.into_below());
     let flushed = below.credit();
     let after = below.writes_left();
     println!(rt; "{meant} with {left} left, below after flushing {flushed} with {after} left")?;

@@ -21,11 +21,7 @@ pub struct Record {
 fn top_up(credit: u32, amount: u32, ceiling: u32) -> Option<u32>
     ensures { result ≡ (if nat_le (credit + amount) ceiling then Some (credit + amount) else None) }
 {
-    // The sum may have 33 bits.
-    if u64::from(credit) + u64::from(amount) > u64::from(ceiling) {
-        return None;
-    }
-    Some(credit + amount)
+    credit.checked_add(amount).filter(|sum| *sum <= ceiling)
 }
 
 impl Record {
@@ -64,32 +60,19 @@ impl Record {
     ) -> Option<Record>
         ensures { result ≡ (if nat_le (self.credit + amount) ceiling then Some (taken self number amount tariff) else None) }
     {
-        let credit = top_up(self.credit, amount, ceiling)?;
-        let counted = Record {
-            credit,
+        Some(Record {
+            credit: top_up(self.credit, amount, ceiling)?,
             window: self.window.count(number),
-            ..self
-        };
-        match tariff {
-            Some(_) => Some(Record {
-                index: self.index.saturating_add(1),
-                tariff,
-                ..counted
-            }),
-            None => Some(counted),
-        }
+            index: self.index.saturating_add(u16::from(tariff.is_some())),
+            tariff: tariff.or(self.tariff),
+        })
     }
 
     // The record after a spend. None where the amount is above the credit.
     pub fn spending(self, amount: u32) -> Option<Record>
         ensures { result ≡ (if nat_le amount self.credit then Some (spent self amount) else None) }
     {
-        if amount > self.credit {
-            return None;
-        }
-        Some(Record {
-            credit: self.credit - amount,
-            ..self
-        })
+        let credit = self.credit.checked_sub(amount)?;
+        Some(Record { credit, ..self })
     }
 }

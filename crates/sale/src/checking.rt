@@ -77,7 +77,7 @@ fn is_coded(settings: &Settings, sale: &Sale) -> bool
 pub(crate) fn ready_for(settings: &Settings, sale: &Sale) -> Option<Ready>
     ensures { result ≡ (if salable settings.now sale.now then Some (readied sale.now) else None) }
 {
-    let subclass = SubClass::of(sale.subclass)?;
+    let subclass = SubClass::try_from(sale.subclass).ok()?;
     if !is_coded(settings, sale) {
         return None;
     }

@@ -1,7 +1,7 @@
 // Stores of one record. What a store means is a record and a count of writes left.
 #![tactic(auto)]
 
-ghost use Rattle.std.specs.Prelude.{cond, ◌≡◌, ℕ, ◌-◌, ◌<◌, ◌≤◌, ltb};
+ghost use Rattle.std.specs.Prelude.{◌≡◌, ℕ, ◌-◌, ◌<◌, ◌≤◌, nat_lt, if◌then◌else◌};
 ghost use Rattle.record.specs.declared.Record.{Record};
 
 pub mod plain;
@@ -9,6 +9,7 @@ pub mod plain;
 pub use plain::PlainStore;
 use record::Record;
 
+// The project requires this form of a store: each question is a call on &mut self, and a write answers whether it was done.
 pub trait Store {
     // The record that the store means.
     ghost kept: { Self → Record };
@@ -29,8 +30,8 @@ pub trait Store {
 
     // Replaces the whole record, and answers whether that was done: it is done exactly when writes are left.
     fn write(&mut self, r: Record) -> bool
-        ensures test { result ≡ ltb 0 (writes self.old) }
-        ensures after { self.new ≡ cond (ltb 0 (writes self.old)) (after self.old r) self.old };
+        ensures test { result ≡ nat_lt 0 (writes self.old) }
+        ensures after { self.new ≡ (if nat_lt 0 (writes self.old) then after self.old r else self.old) };
 
     // It then means the record written.
     ghost holds: { (s : Self) (r : Record) → 0 < writes s → kept (after s r) ≡ r };

@@ -6,7 +6,9 @@ use Rattle.std.proofs.lemmas.Nat.{pow_pos, mod_below}
 use Rattle.std.proofs.lemmas.Bool.{and_parts, leb-true}
 use Rattle.token.specs.Widths.{total, unpacked, Fit}
 use Rattle.token.specs.Limits.{under}
-use Rattle.token.specs.RateLayout.{first_part_widths, second_part_widths, third_part_widths}
+use Rattle.token.specs.RateLayout.{first_part_widths, second_part_widths, third_part_widths, PricesSmall, FieldsSmall}
+use Rattle.token.specs.declared.size.Size.{Size}
+use Rattle.refusal.proofs.Making.{holds}
 use Rattle.token.specs.RatePrices.{fits, first_part_fields, second_part_fields, third_part_fields}
 use Rattle.token.specs.declared.tariff.Tariff.{Tariff}
 use Rattle.token.proofs.Tariffs.{under_at, limited}
@@ -49,5 +51,27 @@ part_below [] n i = omega arith
 part_below (w ∷ ws) n zero = mod_below (n / 2 ^ total ws) (2 ^ w) (pow_pos w)
 part_below (w ∷ ws) n (suc i) = part_below ws n i
 
-pub wide : (s : ℕ) → s ≤ 3 → 2 ^ (11 + s) ≤ 2 ^ 14
+wide : (s : ℕ) → s ≤ 3 → 2 ^ (11 + s) ≤ 2 ^ 14
 wide s h = pow-le-pow_right {n = 2} (omega arith) {i = 11 + s} {j = 14} (omega arith)
+
+pub coded : (s : Size) → s.code ≤ 3
+coded s = leb-true s.code 3 (holds (leb s.code 3) s.ok)
+
+-- what is read of the parts is small
+pub first_small : (s : Size) (n : ℕ) → FieldsSmall (unpacked (first_part_widths s.code) n)
+first_small s n =
+    let k = wide s.code (coded s) in
+    let b = part_below (first_part_widths s.code) n in
+    record { month = b 3; number = b 4; multiplier = b 5; prices = (omega (arith, b 7, k), (omega (arith, b 8, k), tt)) }
+
+pub second_small : (s : Size) (n : ℕ) → PricesSmall 0 4 (unpacked (second_part_widths s.code) n)
+second_small s n =
+    let k = wide s.code (coded s) in
+    let b = part_below (second_part_widths s.code) n in
+    (omega (arith, b 0, k), (omega (arith, b 1, k), (omega (arith, b 2, k), (omega (arith, b 3, k), tt))))
+
+pub third_small : (s : Size) (n : ℕ) → PricesSmall 0 2 (unpacked (third_part_widths s.code) n)
+third_small s n =
+    let k = wide s.code (coded s) in
+    let b = part_below (third_part_widths s.code) n in
+    (omega (arith, b 0, k), (omega (arith, b 1, k), tt))

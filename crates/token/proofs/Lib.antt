@@ -2,8 +2,8 @@ pub mod Packs
 pub mod Turns
 pub mod Tariffs
 pub mod Fitting
-pub mod Written
 pub mod ReadBack
 pub mod RateLaws
 pub mod Numbered
+pub mod Found
 pub mod Shapes

@@ -1,5 +1,5 @@
 -- What is packed is read back, and only what packing gives is read. Assumes nothing.
-use Rattle.std.proofs.Common.{◌≡◌, ℕ, zero, suc, ◌+◌, ◌-◌, ◌*◌, ◌/◌, ◌%◌, ◌^◌, ◌<◌, ◌≤◌, Bool, true, false, cond, eqb, ltb, leb, ◌⊎◌, List, [], ◌∷◌, length, get_or, take, Some, None, Ok, Err, Option, Result, sym, refl, ap, ◌∙◌, inl, inr, ⊎_elim, arith, length-take}
+use Rattle.std.proofs.Common.{◌≡◌, ℕ, zero, suc, ◌+◌, ◌-◌, ◌*◌, ◌/◌, ◌%◌, ◌^◌, ◌<◌, ◌≤◌, Bool, true, false, cond, eqb, ltb, leb, ◌⊎◌, List, [], ◌∷◌, length, get_or, take, Some, None, Ok, Err, Option, Result, sym, refl, ap, ◌∙◌, inl, inr, ⊎_elim, arith}
 use mir.Val.{bool_byte}
 use Rattle.std.proofs.lemmas.Nat.{mod_below}
 use Rattle.std.proofs.lemmas.Bool.{and_parts, and_from, eq-eqb, le-leb, lt-ltb, cases_Bool, cond-true, leb-true}
@@ -8,7 +8,7 @@ use Rattle.token.specs.Widths.{packed, unpacked}
 use Rattle.token.proofs.Packs.{packs}
 use Rattle.token.specs.Limits.{under}
 use Rattle.token.specs.RateLayout.{first_part_widths, second_part_widths, third_part_widths, part_count, size_in}
-use Rattle.token.specs.RatePrices.{fits, three, parts, held, first_part_fields, second_part_fields, third_part_fields, lawful, prices_in, spelled, from_fields, tariff_in, written, Back, Only, Judged}
+use Rattle.token.specs.RatePrices.{fits, three, parts, held, first_part_fields, second_part_fields, third_part_fields, lawful, prices_in, spelled, from_fields, tariff_in, Back, Only, Judged}
 use Rattle.token.specs.FurtherBlocks.{carriable}
 use Rattle.token.specs.declared.tariff.Tariff.{Tariff}
 use Rattle.token.specs.declared.parts.Parts.{Parts}
@@ -16,6 +16,7 @@ use Rattle.refusal.specs.Checks.{found}
 use Rattle.refusal.specs.declared.Refusal.{Refusal}
 use Rattle.refusal.specs.declared.Refusal.TheVariants.{RatePrices}
 use Rattle.refusal.proofs.Making.{holds}
+use Rattle.token.proofs.Found.{found_ok, found_err}
 use Rattle.token.proofs.Tariffs.{under_at, limited, long, unused, again, made}
 use Rattle.token.proofs.Fitting.{size_small, fit_first, fit_second, fit_third, first_59, second_59, third_59, part_below}
 
@@ -182,22 +183,11 @@ only ps t u e =
       fitting = and_from (leb s 3) (under (2 ^ (11 + s)) t.prices) (le-leb s 3 h) (rw m.prices (all_eight (2 ^ (11 + s)) _ _ _ _ _ _ _ _ (w 7) (w 8) (x 0) (x 1) (x 2) (x 3) (y 0) (y 1)));
     }
 
-found_ok : (o : Option Tariff) (t : Tariff) → Ok t ≡ found o RatePrices → o ≡ Some t
-found_ok (Some u) t e = let p : u ≡ t = cc in ap Some p
-found_ok None t e = absurd (let z : ◌≡◌ {A = ℕ} 0 1 = cc in omega arith)
-
-found_err : (o : Option Tariff) (x : Refusal) → Err x ≡ found o RatePrices → (x ≡ RatePrices) × (o ≡ None)
-found_err (Some u) x e = absurd (let z : ◌≡◌ {A = ℕ} 0 1 = cc in omega arith)
-found_err None x e = ((cc), refl)
-
 pub judged : (ps : List ℕ) (r : Result Tariff Refusal) → r ≡ found (tariff_in ps) RatePrices → Judged ps r
-judged ps (Ok t) e = λ u. only ps t u (found_ok (tariff_in ps) t e)
+judged ps (Ok t) e = λ u. only ps t u (found_ok (tariff_in ps) RatePrices t e)
 judged ps (Err x) e =
-    let n = found_err (tariff_in ps) x e in
+    let n = found_err (tariff_in ps) RatePrices x e in
     (n.0, λ t s f p. let o : None ≡ Some t = sym n.1 ∙ ap tariff_in p ∙ back t s f in let z : ◌≡◌ {A = ℕ} 0 1 = cc in omega arith)
-
-pub read_back : (t : Tariff) (s : ℕ) (l : List ℕ) → Some l ≡ written t s → fits t s ≡ true → tariff_in l ≡ Some t
-read_back t s l e f = let p : Some l ≡ Some (parts t s) = e ∙ cond-true (fits t s) _ _ f in let q : l ≡ parts t s = cc in ap tariff_in q ∙ back t s f
 
 under-take : (n k : ℕ) (xs : List ℕ) → under n xs ≡ true → under n (take k xs) ≡ true
 under-take n zero xs h = refl
@@ -223,6 +213,4 @@ parts-carriable t s f =
 
 pub held-carriable : (p : Parts) → carriable (held p) ≡ true
 held-carriable p =
-    let h = and_parts (leb p.count 3) (under (2 ^ 59) p.words) (holds _ p.ok) in
-    and_from (leb (length (held p)) 3) (under (2 ^ 59) (held p))
-    (le-leb _ 3 (simp length-take (omega (arith, leb-true p.count 3 h.0)))) (under-take (2 ^ 59) p.count p.words h.1)
+    holds _ p.ok

@@ -1,7 +1,7 @@
 -- What the blocks of a slip are judged as is right. Assumes nothing.
-use Rattle.std.proofs.Common.{◌≡◌, ℕ, suc, ◌/◌, ◌%◌, ◌^◌, Bool, true, false, ◌&&◌, ◌||◌, eqb, leb, ◌⊎◌, List, [], ◌∷◌, ◌++◌, length, get_or, drop, Some, None, Ok, Err, Option, Result, sym, refl, ap, ◌∙◌, subst, inl, inr, ⊎_elim, arith}
+use Rattle.std.proofs.Common.{◌≡◌, ℕ, suc, ◌/◌, ◌%◌, ◌^◌, Bool, true, false, ◌&&◌, ◌||◌, eqb, leb, ◌⊎◌, List, [], ◌∷◌, ◌++◌, length, drop, Some, None, Ok, Err, Option, Result, sym, refl, ap, ◌∙◌, subst, inl, inr, ⊎_elim, arith}
 use Rattle.std.proofs.lemmas.Bool.{and_parts, and_from, eqb-true, eq-eqb, leb-true, le-leb, cases_Bool, cond-true, cond-false}
-use Rattle.refusal.specs.Checks.{provided}
+use Rattle.refusal.specs.Checks.{provided, found}
 use Rattle.refusal.specs.declared.Refusal.{Refusal}
 use Rattle.refusal.specs.declared.Refusal.TheVariants.{OtherSubClass, WrongBlocks}
 use Rattle.token.specs.declared.subclass.SubClass.{SubClass}
@@ -11,6 +11,7 @@ use Rattle.token.specs.declared.first.FirstBlock.{FirstBlock}
 use Rattle.token.specs.FirstBlocks.{first_block_of}
 use Rattle.token.specs.FurtherBlocks.{sequence_of, sequenced, carriable, numbered}
 use Rattle.token.specs.Shapes.{sub_class_in, fitting, shape_of, Shaped, Judged}
+use Rattle.token.proofs.Found.{found_ok, found_err}
 use Rattle.token.proofs.Numbered.{length-numbered, carried}
 
 after_it : (before after : List ℕ) (b : ℕ) (bs : List ℕ) → bs ≡ before ++ b ∷ after → sequenced bs ≡ true → sequence_of b ≡ length after
@@ -60,12 +61,21 @@ of_code n Enciphered e = rw e refl
 of_code n Rates e = rw e refl
 
 -- the SubClass that is read off the first block
-pub read_as : (bs : List ℕ) (b : FirstBlock) (o : Option SubClass) → b ≡ first_block_of (get_or bs 0 0) → o ≡ sub_class_of b.subclass → sub_class_of (sub_class_in bs) ≡ o
-read_as bs b o f e = sym (e ∙ ap (λ (x : FirstBlock). sub_class_of x.subclass) f)
+pub read_as : (x : ℕ) (rest : List ℕ) (b : FirstBlock) (r : Result SubClass Refusal) → b ≡ first_block_of x → r ≡ found (sub_class_of b.subclass) OtherSubClass → r ≡ found (sub_class_of (sub_class_in (x ∷ rest))) OtherSubClass
+read_as x rest b r f e = e ∙ ap (λ (y : FirstBlock). found (sub_class_of y.subclass) OtherSubClass) f
 
-pub shape_other : (bs : List ℕ) → sub_class_of (sub_class_in bs) ≡ None → Err OtherSubClass ≡ shape_of bs
+shape_other : (bs : List ℕ) → sub_class_of (sub_class_in bs) ≡ None → Err OtherSubClass ≡ shape_of bs
 unfolding shape_of
 shape_other bs e = ap (λ v. provided v OtherSubClass (provided (fitting bs) WrongBlocks (Ok (sub_class_named (sub_class_in bs))))) (sym (misses sub_classes (sub_class_in bs) e))
+
+pub shape_refused : (bs : List ℕ) (x : Refusal) → Err x ≡ found (sub_class_of (sub_class_in bs)) OtherSubClass → Err x ≡ shape_of bs
+shape_refused bs x e = let p = found_err (sub_class_of (sub_class_in bs)) OtherSubClass x e in ap Err p.0 ∙ shape_other bs p.1
+
+-- where there is no block, the SubClass reads as 0
+pub shape_empty : (bs : List ℕ) → length bs ≡ 0 → Err WrongBlocks ≡ shape_of bs
+unfolding shape_of
+shape_empty [] e = refl
+shape_empty (b ∷ bs) e = absurd (omega arith)
 
 -- what is left to test once the SubClass is known
 shape_served : (bs : List ℕ) (k : SubClass) → sub_class_of (sub_class_in bs) ≡ Some k → provided (takes k (length bs) && sequenced (drop 1 bs)) WrongBlocks (Ok k) ≡ shape_of bs
@@ -119,6 +129,12 @@ judged bs r e =
     (found_or_not (sub_class_of (sub_class_in bs)))
 
 -- the blocks of a slip that is made of its first block and data parts
+pub shape_wrong_at : (bs : List ℕ) (k : SubClass) → Ok k ≡ found (sub_class_of (sub_class_in bs)) OtherSubClass → (takes k (length bs) && sequenced (drop 1 bs)) ≡ false → Err WrongBlocks ≡ shape_of bs
+shape_wrong_at bs k e = shape_wrong bs k (found_ok (sub_class_of (sub_class_in bs)) OtherSubClass k e)
+
+pub shape_ok_at : (bs : List ℕ) (k : SubClass) → Ok k ≡ found (sub_class_of (sub_class_in bs)) OtherSubClass → takes k (length bs) ≡ true → sequenced (drop 1 bs) ≡ true → Ok k ≡ shape_of bs
+shape_ok_at bs k e = shape_ok bs k (found_ok (sub_class_of (sub_class_in bs)) OtherSubClass k e)
+
 pub shape_made : (f : ℕ) (ps : List ℕ) (k : SubClass) → f / 2 ^ 57 % 2 ^ 4 ≡ code k → takes k (suc (length ps)) ≡ true → carriable ps ≡ true → shape_of (f ∷ numbered ps) ≡ Ok k
 shape_made f ps k e t c =
     sym (shape_ok (f ∷ numbered ps) k (of_code (f / 2 ^ 57 % 2 ^ 4) k e) (ap (λ (n : ℕ). takes k (suc n)) (length-numbered ps) ∙ t) (carried.back ps c).0)

@@ -1,6 +1,7 @@
 -- What the limits of a tariff say, and a tariff by its parts. Assumes nothing.
-use Rattle.std.proofs.Common.{◌≡◌, ℕ, zero, suc, ◌-◌, ◌^◌, ◌<◌, ◌≤◌, Bool, true, ◌&&◌, ◌||◌, eqb, ltb, leb, List, [], ◌∷◌, length, get_or, Some, sym, refl, ap, ⊎_elim, arith}
-use Rattle.std.proofs.lemmas.Bool.{and_parts, or_cases, ltb-true, eqb-true}
+use Rattle.std.proofs.Common.{◌≡◌, ℕ, zero, suc, ◌^◌, ◌<◌, ◌≤◌, Bool, true, ◌&&◌, eqb, ltb, leb, List, [], ◌∷◌, length, get_or, Some, sym, refl, ap, arith}
+use Rattle.std.specs.List.{list_all}
+use Rattle.std.proofs.lemmas.Bool.{and_parts, ltb-true, eqb-true}
 use Rattle.std.proofs.lemmas.Bool.Decides.{nat_tests}
 use Rattle.token.specs.Limits.{under, unused_zero, priced, tariffable}
 use Rattle.token.specs.Tariffs.{tariff_of}
@@ -12,11 +13,16 @@ under_at limit [] i p h = p
 under_at limit (x ∷ xs) zero p h = ltb-true x limit (and_parts (ltb x limit) (under limit xs) h).0
 under_at limit (x ∷ xs) (suc i) p h = under_at limit xs i p (and_parts (ltb x limit) (under limit xs) h).1
 
+zero_at : (ps : List ℕ) (i : ℕ) → list_all (λ p. eqb p 0) ps ≡ true → get_or ps i 0 ≡ 0
+zero_at [] i h = refl
+zero_at (p ∷ ps) zero h = eqb-true p 0 (and_parts (eqb p 0) (list_all (λ q. eqb q 0) ps) h).0
+zero_at (p ∷ ps) (suc i) h = zero_at ps i (and_parts (eqb p 0) (list_all (λ q. eqb q 0) ps) h).1
+
 unused_at : (n : ℕ) (ps : List ℕ) (i : ℕ) → unused_zero n ps ≡ true → n ≤ i → get_or ps i 0 ≡ 0
-unused_at n [] i h l = refl
-unused_at n (p ∷ ps) zero h l =
-    ⊎_elim (λ e. absurd (omega (arith, ltb-true 0 n e))) (λ e. eqb-true p 0 e) (or_cases (ltb 0 n) (eqb p 0) (and_parts (ltb 0 n || eqb p 0) (unused_zero (n - 1) ps) h).0)
-unused_at n (p ∷ ps) (suc i) h l = unused_at (n - 1) ps i (and_parts (ltb 0 n || eqb p 0) (unused_zero (n - 1) ps) h).1 (omega arith)
+unused_at zero ps i h l = zero_at ps i h
+unused_at (suc n) [] i h l = refl
+unused_at (suc n) (p ∷ ps) zero h l = absurd (omega arith)
+unused_at (suc n) (p ∷ ps) (suc i) h l = unused_at n ps i h (omega arith)
 
 -- what the limits of a tariff say of its numbers
 pub record Limited (t : Tariff) : Type 0 where
@@ -41,6 +47,12 @@ pub long : (t : Tariff) → length t.prices ≡ 8
 long t =
     let ps = t.prices in
     eqb-true (length ps) 8 (and_parts (eqb (length ps) 8) (under (2 ^ 14) ps) (and_parts (eqb (length ps) 8 && under (2 ^ 14) ps) (unused_zero t.count ps) (priced_of t)).0).0
+
+-- each price has at most fourteen bits
+pub small : (t : Tariff) (i : ℕ) → get_or t.prices i 0 < 2 ^ 14
+small t i =
+    let ps = t.prices in
+    under_at (2 ^ 14) ps i (omega arith) (and_parts (eqb (length ps) 8) (under (2 ^ 14) ps) (and_parts (eqb (length ps) 8 && under (2 ^ 14) ps) (unused_zero t.count ps) (priced_of t)).0).1
 
 pub unused : (t : Tariff) (i : ℕ) → t.count ≤ i → get_or t.prices i 0 ≡ 0
 unused t i h =

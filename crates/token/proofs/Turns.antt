@@ -1,82 +1,94 @@
--- One field more, from the front for packing and from the back for unpacking. Assumes nothing.
-use Rattle.std.proofs.Common.{◌≡◌, ℕ, zero, suc, ◌+◌, ◌*◌, ◌/◌, ◌%◌, ◌^◌, ◌<◌, ◌≤◌, List, [], ◌∷◌, length, get_or, drop, set, sym, refl, ap, ◌∙◌, mod-eq_of_lt, mul_assoc, add-mul, mul-le-mul_left, div-one, arith}
+-- One field more, from the front for packing (turn) and from the back for unpacking (turn_back). Assumes nothing.
+use Rattle.std.proofs.Common.{◌≡◌, ℕ, ◌+◌, ◌*◌, ◌/◌, ◌%◌, ◌^◌, ◌<◌, ◌≤◌, ◌⊎◌, inl, inr, List, [], ◌∷◌, ◌++◌, length, drop, set, sym, ap, ◌∙◌, mod-eq_of_lt, mul_assoc, append_assoc, length-append, add-mul, mul-le-mul_left, div-one, arith}
 use native.Mathlib.Nat.{pow-le-pow_right}
 use Rattle.std.proofs.lemmas.Nat.{pow_pos, pow-add, shr-shr}
-use Rattle.std.proofs.lemmas.List.{drop_more, drop_all, drop-set, length-set}
+use Rattle.std.proofs.lemmas.List.{drop_all, drop-set, length-set, append-nil}
 use Rattle.token.specs.Widths.{total, packed, unpacked, Fit}
 use Rattle.token.proofs.Packs.{packs}
 
-pub fit_length : (ws vs : List ℕ) → Fit ws vs → length vs ≡ length ws
-fit_length [] [] f = refl
-fit_length [] (v ∷ vs) f = absurd f
-fit_length (w ∷ ws) [] f = absurd f
-fit_length (w ∷ ws) (v ∷ vs) f = ap suc (fit_length ws vs f.1)
+-- what is packed already, and what is left: widths and values of fields that are still to come
+pub record Left (ws vs : List ℕ) (whole word : ℕ) : Type 0 where
+  pub fit : Fit ws vs
+  pub room : total ws < 64
+  pub rest : word * 2 ^ total ws + packed ws vs ≡ whole
 
--- no field is wider than all of them together
-pub one_of : (ws : List ℕ) (i : ℕ) → get_or ws i 0 ≤ total ws
-one_of [] i = omega arith
-one_of (w ∷ ws) zero = omega arith
-one_of (w ∷ ws) (suc i) = omega (arith, one_of ws i)
+-- a turn of packing: the new word is not cut, since all fields together have room
+pub record Turn (w v : ℕ) (ws vs : List ℕ) (whole word : ℕ) : Type 0 where
+  pub narrow : w < 64
+  pub fits : word * 2 ^ w % 2 ^ 64 + v < 2 ^ 64
+  pub next : Left ws vs whole (word * 2 ^ w % 2 ^ 64 + v)
 
--- what is packed already, and what is left
-abbrev pub Left : List ℕ → List ℕ → ℕ → ℕ → Type 0
-Left ws vs i word = word * 2 ^ total (drop i ws) + packed (drop i ws) (drop i vs) ≡ packed ws vs
+pub turn : (w v : ℕ) (ws vs : List ℕ) (whole word : ℕ) → whole < 2 ^ 64 → Left (w ∷ ws) (v ∷ vs) whole word → Turn w v ws vs whole word
+turn w v ws vs whole word h l =
+    let t = total ws in
+    let here : word * 2 ^ (w + t) ≡ word * 2 ^ w * 2 ^ t = ap (λ x. word * x) (pow-add 2 w t) ∙ sym (mul_assoc word (2 ^ w) (2 ^ t)) in
+    let rest : (word * 2 ^ w + v) * 2 ^ t + packed ws vs ≡ whole = omega (arith, l.rest, here, add-mul (word * 2 ^ w) v (2 ^ t)) in
+    let m = mul-le-mul_left {m = 1} {n = 2 ^ t} (word * 2 ^ w + v) (pow_pos t) in
+    let small : word * 2 ^ w + v < 2 ^ 64 = omega (arith, rest, m) in
+    let uncut : word * 2 ^ w % 2 ^ 64 ≡ word * 2 ^ w = mod-eq_of_lt (omega (arith, small)) in
+    let r = l.room in
+    record {
+      narrow = omega (arith, r);
+      fits = rw uncut small;
+      next = rw uncut (record { fit = l.fit.1; room = omega (arith, r); rest = rest });
+    }
 
-pub left_none : (ws vs : List ℕ) → Left ws vs 0 0
-left_none ws vs = omega arith
+pub in_word : (ws vs : List ℕ) → Fit ws vs → total ws < 64 → packed ws vs < 2 ^ 64
+in_word ws vs f r = omega (arith, (packs ws).below vs f, pow-le-pow_right {n = 2} (omega arith) {i = total ws} {j = 63} (omega arith))
 
-pub left_more : (ws vs : List ℕ) (i word : ℕ) → i < length ws → length vs ≡ length ws → Left ws vs i word → Left ws vs (i + 1) (word * 2 ^ get_or ws i 0 + get_or vs i 0)
-left_more ws vs i word h l inv =
-    let w = get_or ws i 0 in
-    let v = get_or vs i 0 in
-    let t = total (drop (i + 1) ws) in
-    let k : i < length vs = omega arith in
-    let here = rw (drop_more ws i 0 h, drop_more vs i 0 k) at inv in
-    let split : word * 2 ^ (w + t) ≡ word * 2 ^ w * 2 ^ t = ap (λ x. word * x) (pow-add 2 w t) ∙ sym (mul_assoc word (2 ^ w) (2 ^ t)) in
-    omega (arith, here, split, add-mul (word * 2 ^ w) v (2 ^ t))
+-- where no field is left, the word is whole
+pub left_none : (ws vs : List ℕ) (whole word : ℕ) → Left ws vs whole word → (length ws ≡ 0) ⊎ (length vs ≡ 0) → word ≡ whole
+left_none [] vs whole word l e = let r = l.rest in omega arith
+left_none (w ∷ ws) [] whole word l e = absurd l.fit
+left_none (w ∷ ws) (v ∷ vs) whole word l (inl e) = absurd (omega arith)
+left_none (w ∷ ws) (v ∷ vs) whole word l (inr e) = absurd (omega arith)
 
-pub left_all : (ws vs : List ℕ) (i word : ℕ) → length ws ≤ i → Left ws vs i word → word ≡ packed ws vs
-left_all ws vs i word h inv = omega (arith, rw (drop_all i ws h) at inv)
-
-pub left_small : (ws vs : List ℕ) (i word : ℕ) → Fit ws vs → total ws < 64 → Left ws vs i word → word < 2 ^ 63
-left_small ws vs i word f r inv =
-    let e = (packs ws).below vs f in
-    let p = pow-le-pow_right {n = 2} (omega arith) {i = total ws} {j = 63} (omega arith) in
-    let m = mul-le-mul_left {m = 1} {n = 2 ^ total (drop i ws)} word (pow_pos (total (drop i ws))) in
-    omega (arith, e, p, m, inv)
-
--- the new word of a turn of packing: it is not cut, since all fields together have room
-pub turn : (ws vs : List ℕ) (i word : ℕ) → i < length ws → Fit ws vs → total ws < 64 → Left ws vs i word →
-    (word * 2 ^ get_or ws i 0 % 2 ^ 64 + get_or vs i 0 < 2 ^ 64) × Left ws vs (i + 1) (word * 2 ^ get_or ws i 0 % 2 ^ 64 + get_or vs i 0)
-turn ws vs i word h f r inv =
-    let next = left_more ws vs i word h (fit_length ws vs f) inv in
-    let s = left_small ws vs (i + 1) (word * 2 ^ get_or ws i 0 + get_or vs i 0) f r next in
-    let whole : word * 2 ^ get_or ws i 0 % 2 ^ 64 ≡ word * 2 ^ get_or ws i 0 = mod-eq_of_lt (omega (arith, s)) in
-    rw whole (omega (arith, s), next)
-
--- what is unpacked already, from the back
-pub record Behind (ws fs : List ℕ) (n i left : ℕ) : Type 0 where
+-- what is unpacked already, from the back, where some widths are still to come
+pub record Behind (ws fs front : List ℕ) (n left : ℕ) : Type 0 where
+  pub after : List ℕ
+  pub split : front ++ after ≡ ws
   pub long : length fs ≡ length ws
-  pub rest : left ≡ n / 2 ^ total (drop i ws)
-  pub fields : drop i fs ≡ unpacked (drop i ws) n
+  pub rest : left ≡ n / 2 ^ total after
+  pub fields : drop (length front) fs ≡ unpacked after n
 
-pub behind_none : (ws fs : List ℕ) (n i : ℕ) → length fs ≡ length ws → length ws ≤ i → Behind ws fs n i n
-behind_none ws fs n i l h = record {
+pub behind_none : (ws fs : List ℕ) (n : ℕ) → length fs ≡ length ws → Behind ws fs ws n n
+behind_none ws fs n l = record {
+  after = [];
+  split = append-nil ws;
   long = l;
-  rest = rw (drop_all i ws h) (sym (div-one n));
-  fields = rw (drop_all i ws h) (drop_all i fs (omega arith));
+  rest = sym (div-one n);
+  fields = drop_all (length ws) fs (omega arith);
 }
 
-pub behind_more : (ws fs : List ℕ) (n i left : ℕ) → i < length ws → Behind ws fs n (i + 1) left → Behind ws (set fs i (left % 2 ^ get_or ws i 0)) n i (left / 2 ^ get_or ws i 0)
-behind_more ws fs n i left h b =
-    let w = get_or ws i 0 in
-    let t = total (drop (i + 1) ws) in
+part_of_total : (xs ys : List ℕ) → total ys ≤ total (xs ++ ys)
+part_of_total [] ys = omega arith
+part_of_total (x ∷ xs) ys = omega (arith, part_of_total xs ys)
+
+-- a turn of unpacking, at the last width that is still to come
+pub record Back (ws fs front : List ℕ) (n left w i : ℕ) : Type 0 where
+  pub narrow : w ≤ total ws
+  pub inside : i < length fs
+  pub next : Behind ws (set fs i (left % 2 ^ w)) front n (left / 2 ^ w)
+
+pub turn_back : (ws fs front next : List ℕ) (n left w i : ℕ) → front ≡ next ++ w ∷ [] → i ≡ length next → Behind ws fs front n left → Back ws fs next n left w i
+turn_back ws fs front next n left w i e at b =
+    let t = total b.after in
+    let split : next ++ (w ∷ b.after) ≡ ws = sym (append_assoc next (w ∷ []) b.after) ∙ ap (λ (xs : List ℕ). xs ++ b.after) (sym e) ∙ b.split in
+    let whole : total (next ++ (w ∷ b.after)) ≡ total ws = ap total split in
+    let one : length front ≡ i + 1 = ap length e ∙ length-append next (w ∷ []) ∙ omega arith in
+    let all : length (next ++ (w ∷ b.after)) ≡ length ws = ap length split in
     let l = b.long in
-    let k : i < length fs = omega arith in
-    let part : left % 2 ^ w ≡ n / 2 ^ t % 2 ^ w = ap (λ x. x % 2 ^ w) b.rest in
-    let here : left / 2 ^ w ≡ n / 2 ^ (w + t) = ap (λ x. x / 2 ^ w) b.rest ∙ shr-shr n t w ∙ ap (λ x. n / 2 ^ x) (omega arith) in
+    let k : i < length fs = omega (arith, all, length-append next (w ∷ b.after)) in
+    let part : left % 2 ^ w ≡ n / 2 ^ t % 2 ^ w = ap (λ (x : ℕ). x % 2 ^ w) b.rest in
+    let tail : drop (i + 1) fs ≡ unpacked b.after n = ap (λ (j : ℕ). drop j fs) (sym one) ∙ b.fields in
     record {
-      long = length-set fs i (left % 2 ^ w) ∙ l;
-      rest = rw (drop_more ws i 0 h) here;
-      fields = rw (drop_more ws i 0 h) (drop-set fs i (left % 2 ^ w) k ∙ (λ j. part j ∷ b.fields j));
+      narrow = omega (arith, whole, part_of_total next (w ∷ b.after));
+      inside = k;
+      next = record {
+        after = w ∷ b.after;
+        split = split;
+        long = length-set fs i (left % 2 ^ w) ∙ l;
+        rest = ap (λ (x : ℕ). x / 2 ^ w) b.rest ∙ shr-shr n t w ∙ ap (λ (x : ℕ). n / 2 ^ x) (omega arith);
+        fields = ap (λ (j : ℕ). drop j (set fs i (left % 2 ^ w))) (sym at) ∙ drop-set fs i (left % 2 ^ w) k ∙ (λ j. part j ∷ tail j);
+      };
     }

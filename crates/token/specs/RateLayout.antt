@@ -1,4 +1,4 @@
--- How rate prices lie in data parts of 59 bits: first_part_widths, second_part_widths, third_part_widths, part_count, size_in; and how
+-- How rate prices lie in data parts of 59 bits: first_part_widths, second_part_widths, third_part_widths, part_count, size_in_part, size_in; and how
 -- small what is read there is: PricesSmall, FieldsSmall.
 use Rattle.std.specs.Prelude.{ℕ, zero, suc, ◌+◌, ◌-◌, ◌*◌, ◌/◌, ◌%◌, ◌^◌, ◌<◌, cond, List, [], ◌∷◌, nat_le, slice_index, slice_index_or}
 
@@ -18,9 +18,13 @@ third_part_widths size = (11 + size) ∷ (11 + size) ∷ (37 - 2 * size) ∷ []
 abbrev pub part_count : ℕ → ℕ
 part_count count = cond (nat_le count 2) 1 (cond (nat_le count 6) 2 3)
 
--- the size code that the first part names, in its bits 35 and 36
+-- the size code that a first part names, in its bits 35 and 36
+abbrev pub size_in_part : ℕ → ℕ
+size_in_part word = word / 2 ^ 35 % 4
+
+-- and the first of some parts
 abbrev pub size_in : List ℕ → ℕ
-size_in parts = slice_index parts 0 / 2 ^ 35 % 4
+size_in parts = size_in_part (slice_index parts 0)
 
 -- the prices in so many fields from a place on have at most fourteen bits
 abbrev pub PricesSmall : ℕ → ℕ → List ℕ → Type 0

@@ -10,8 +10,8 @@ pub(crate) fn pack(widths: &[u32], values: &[u64]) -> u64
     ensures bound { result < 2 ^ total widths.now }
 {
     let mut word = 0;
-    for (i, width) in widths.iter().enumerate() {
-        word = (word << *width) + values[i];
+    for (width, value) in widths.iter().zip(values) {
+        word = (word << *width) + *value;
     }
     word
 }
@@ -24,14 +24,15 @@ pub(crate) fn unpack<const N: usize>(widths: &[u32; N], word: u64) -> [u64; N]
 {
     let mut fields = [0; N];
     let mut left = word;
-    for i in (0..N).rev() {
-        fields[i] = left % (1 << widths[i]);
-        left >>= widths[i];
+    for (i, width) in widths.iter().enumerate().rev() {
+        fields[i] = left % (1 << *width);
+        left >>= *width;
     }
     fields
 }
 
 // Packing and unpacking undo one another, whatever the widths.
+#[tactic(auto, using(crate::proofs::Packs::packs))]
 pub fn packing_law() -> u8
     ensures { (ws : List ℕ) → Packs ws }
 {

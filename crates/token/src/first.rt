@@ -15,7 +15,7 @@ pub struct FirstBlock {
 }
 
 impl FirstBlock {
-    // What lies above the low 61 bits does not matter.
+    // What lies above the low 61 bits does not matter, so this is no From, which drops nothing.
     pub fn of(block: u64) -> FirstBlock
         ensures value { result ≡ first_block_of block }
         ensures small { Small result }
@@ -37,11 +37,11 @@ impl FirstBlock {
             return None;
         }
         Some(
-            ((self.subclass as u64) << 57)
-                + ((self.tstn as u64) << 47)
-                + ((self.config as u64) << 45)
-                + ((self.amt as u64) << 32)
-                + self.tmac as u64,
+            (u64::from(self.subclass) << 57)
+                + (u64::from(self.tstn) << 47)
+                + (u64::from(self.config) << 45)
+                + (u64::from(self.amt) << 32)
+                + u64::from(self.tmac),
         )
     }
 }

@@ -21,12 +21,7 @@ pub fn part_of(block: u64) -> u64
 fn all_parts(parts: &[u64]) -> bool
     ensures { result ≡ under (2 ^ 59) parts.now }
 {
-    for p in parts {
-        if *p >= 1 << 59 {
-            return false;
-        }
-    }
-    true
+    parts.iter().all(|part| *part < 1 << 59)
 }
 
 // Puts above each part the count of blocks after it.
@@ -35,12 +30,13 @@ fn number(parts: &mut [u64])
     requires small { under (2 ^ 59) parts.old ≡ true }
     ensures { parts.new ≡ numbered parts.old }
 {
-    for i in 0..parts.len() {
-        let after = (parts.len() - 1 - i) as u64;
-        parts[i] = (after << 59) + parts[i];
+    let count = parts.len();
+    for (i, part) in parts.iter_mut().enumerate() {
+        *part += ((count - 1 - i) as u64) << 59;
     }
 }
 
+// A flag and no Result, as a caller whose parts can be carried has nothing to read in an error.
 // Turns data parts into the further blocks that carry them. False, and nothing is changed, where there are more than three or
 // one has more than 59 bits.
 pub fn number_parts(parts: &mut [u64]) -> bool
@@ -64,6 +60,7 @@ pub fn strip_sequences(blocks: &mut [u64])
 }
 
 // Parts that were numbered are in sequence, and are found again.
+#[tactic(auto, using(crate::proofs::Numbered::carried))]
 pub fn carried_law() -> u8
     ensures { Carried }
 {

@@ -10,5 +10,6 @@ pub mod parts;
 pub mod rate_layout;
 pub mod rates;
 pub mod shape;
+pub(crate) mod size;
 pub mod subclass;
 pub mod tariff;

@@ -10,28 +10,22 @@ pub(crate) fn within(bits: u32, prices: &[u16]) -> bool
     requires { bits ≤ 14 }
     ensures { result ≡ under (2 ^ bits) prices.now }
 {
-    for p in prices {
-        if *p >= 1 << bits {
-            return false;
-        }
-    }
-    true
+    let limit = 1 << bits;
+    prices.iter().all(|price| *price < limit)
 }
 
 // Whether the prices after the first `count` are zero.
 fn unused_zero(count: u8, prices: &[u16]) -> bool
     ensures { result ≡ unused_zero count prices.now }
 {
-    for (i, p) in prices.iter().enumerate() {
-        if i >= count as usize && *p != 0 {
-            return false;
-        }
-    }
-    true
+    prices
+        .iter()
+        .skip(usize::from(count))
+        .all(|price| *price == 0)
 }
 
 impl Tariff {
-    // None where a limit is broken.
+    // None where a limit is broken. Five values, as a price list and an image each hold them in a form of their own.
     pub fn new(
         complete: bool,
         month: u8,

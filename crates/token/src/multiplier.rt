@@ -9,5 +9,5 @@ pub fn price_multiplier(code: u8) -> Option<u32>
     if code > 6 {
         return None;
     }
-    Some(10_u32.pow(code as u32))
+    Some(10_u32.pow(u32::from(code)))
 }

@@ -1,11 +1,11 @@
 // At most three data parts, each of 59 bits.
 ghost use Rattle.std.specs.Prelude.{T};
-ghost use Rattle.token.specs.Limits.{partable};
+ghost use Rattle.token.specs.FurtherBlocks.{carriable};
 
-#[derive(Clone, Copy)]
+use arrayvec::ArrayVec;
+
+#[derive(Drop)]
 pub struct Parts {
-    pub(crate) words: [u64; 3],
-    // How many of the words are parts.
-    pub(crate) count: usize,
-    ghost ok: { T (partable count words) },
+    pub(crate) words: ArrayVec<u64, 3>,
+    ghost ok: { T (carriable words.items) },
 }

@@ -1,25 +1,41 @@
 // Rate prices written to data parts and read from them.
-ghost use Rattle.std.specs.Prelude.{◌≡◌};
+ghost use Rattle.std.specs.Prelude.{◌≡◌, true};
 ghost use Rattle.refusal.specs.Checks.{found};
 ghost use Rattle.refusal.specs.declared.Refusal.TheVariants.{RatePrices};
 ghost use Rattle.token.specs.RateLayout.{FieldsSmall, PricesSmall};
-ghost use Rattle.token.specs.RatePrices.{written, holding, held, lawful, spelled, tariff_in, Back, Only, Judged, ReadBack};
+ghost use Rattle.token.specs.RatePrices.{fits, parts, written, holding, held, lawful, spelled, tariff_in, Back, Only, Judged, ReadBack};
 
+use crate::fields::{pack, unpack};
 use crate::limits::within;
 use crate::parts::Parts;
 use crate::rate_layout::{
-    SUB_INFORMATION, TYPE, first_fields, first_part, part, part_count, second_fields, second_part,
-    third_fields, third_part,
+    SUB_INFORMATION, TYPE, first_values, part, part_count, second_values, third_values,
 };
+use crate::size::Size;
 use crate::tariff::Tariff;
+use arrayvec::ArrayVec;
 use refusal::Refusal;
 
 impl Parts {
     pub fn as_slice(&self) -> &[u64]
         ensures { result.now ≡ held self.now }
     {
-        &self.words[0..self.count]
+        self.words.as_slice()
     }
+}
+
+// The words of the parts that the prices take.
+fn words_of(t: &Tariff, size: Size) -> ArrayVec<u64, 3>
+    requires { fits t.now size.code ≡ true }
+    ensures { result.items ≡ parts t.now size.code }
+{
+    let mut words = ArrayVec::from([
+        pack(&size.first_widths(), &first_values(t, size)),
+        pack(&size.second_widths(), &second_values(t)),
+        pack(&size.third_widths(), &third_values(t)),
+    ]);
+    words.truncate(part_count(t.count));
+    words
 }
 
 // The data parts of rate prices. None where the size code is above 3 or a price does not fit its field.
@@ -27,18 +43,12 @@ pub fn rate_parts(t: &Tariff, size: u8) -> Option<Parts>
     ensures value { holding result ≡ written t.now size }
     ensures back { ReadBack t.now result }
 {
-    if size > 3 || !within(11 + u32::from(size), &t.prices) {
+    let size = Size::new(size)?;
+    if !within(size.bits(), &t.prices) {
         return None;
     }
-    let words = [
-        first_part(t, size),
-        second_part(t, size),
-        third_part(t, size),
-    ];
-    Some(Parts {
-        words,
-        count: part_count(t.count),
-    })
+    let words = words_of(t, size);
+    Some(Parts { words })
 }
 
 // Whether the fields of so many parts keep the rules that are not limits of the tariff itself.
@@ -81,10 +91,10 @@ fn tariff_in(parts: &[u64]) -> Option<Tariff>
     ensures { result ≡ tariff_in parts.now }
 {
     let word = part(parts, 0);
-    let size = ((word >> 35) % 4) as u8;
-    let first = first_fields(word, size);
-    let second = second_fields(part(parts, 1), size);
-    let third = third_fields(part(parts, 2), size);
+    let size = Size::named_in(word);
+    let first = unpack(&size.first_widths(), word);
+    let second = unpack(&size.second_widths(), part(parts, 1));
+    let third = unpack(&size.third_widths(), part(parts, 2));
     if !is_lawful(parts.len(), &first, &second, &third) {
         return None;
     }
@@ -92,14 +102,12 @@ fn tariff_in(parts: &[u64]) -> Option<Tariff>
 }
 
 // The rate prices that data parts hold, unless they break a rule.
+#[tactic(auto, using(crate::proofs::RateLaws::judged))]
 pub fn rate_prices(parts: &[u64]) -> Result<Tariff, Refusal>
     ensures value { result ≡ found (tariff_in parts.now) RatePrices }
     ensures judged { Judged parts.now result }
 {
-    match tariff_in(parts) {
-        Some(t) => Ok(t),
-        None => Err(Refusal::RatePrices),
-    }
+    tariff_in(parts).ok_or(Refusal::RatePrices)
 }
 
 // Prices that fit their size are read back from their parts, and parts that are read are those of the prices.

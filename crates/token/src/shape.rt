@@ -12,12 +12,11 @@ use refusal::Refusal;
 fn in_sequence(further: &[u64]) -> bool
     ensures { result ≡ sequenced further.now }
 {
-    for (i, block) in further.iter().enumerate() {
-        if sequence_of(*block) as usize != further.len() - 1 - i {
-            return false;
-        }
-    }
-    true
+    further
+        .iter()
+        .rev()
+        .enumerate()
+        .all(|(after, block)| usize::from(sequence_of(*block)) == after)
 }
 
 // The SubClass of the slip that the blocks make. It can be told before anything is deciphered: the SubClass and the counts of
@@ -26,13 +25,8 @@ pub fn shape(blocks: &[u64]) -> Result<SubClass, Refusal>
     ensures value { result ≡ shape_of blocks.now }
     ensures judged { Judged blocks.now result }
 {
-    let [block, further @ ..] = blocks else {
-        return Err(Refusal::WrongBlocks);
-    };
-    let first = FirstBlock::of(*block);
-    let Some(subclass) = SubClass::of(first.subclass) else {
-        return Err(Refusal::OtherSubClass);
-    };
+    let (block, further) = blocks.split_first().ok_or(Refusal::WrongBlocks)?;
+    let subclass = SubClass::try_from(FirstBlock::of(*block).subclass)?;
     if !subclass.takes(blocks.len()) || !in_sequence(further) {
         return Err(Refusal::WrongBlocks);
     }

@@ -119,3 +119,15 @@ raised w n r left h e bits k p q = ⊎_elim
     (cases_lt k w.highest))
     (λ (l : n ≤ k). grind (arith, nat_tests))
     (cases_lt k n)
+
+-- the marks after a number below the highest is counted
+pub lowered : (w : Window) (n r : ℕ) → n < w.highest → 0 < n →
+    ((i : ℕ) → bit r i ≡ cond (eqb i (w.highest - 1 - n)) true (bit w.marks i)) →
+    (k : ℕ) → 0 < k → w.highest ≤ k + 126 → marked_in w.highest r k ≡ (marked w k || eqb k n)
+unfolding marked
+lowered w n r h o bits k p q = let b = bits (w.highest - 1 - k) in grind (arith, nat_tests, b)
+
+-- and the highest itself
+pub counted_again : (w : Window) (k : ℕ) → 0 < k → marked w k ≡ (marked w k || eqb k w.highest)
+unfolding marked
+counted_again w k p = grind (arith, nat_tests)

@@ -12,7 +12,8 @@ pub(crate) fn is_set(bits: u128, place: u32) -> bool
 
 // The bits moved up by `by` places, with the one just below them set where `also` says so. Only the lowest `left` stay.
 pub(crate) fn moved(bits: u128, by: u32, also: bool, left: u32) -> u128
-    requires { (0 < by) × (left ≤ 126) }
+    requires up { 0 < by }
+    requires few { left ≤ 126 }
     ensures below { result < 2 ^ left }
     ensures bits { (i : ℕ) → i < left → bit result i ≡ (if nat_lt i by then also && (i + 1 == by) else bit bits (i - by)) }
 {
@@ -27,7 +28,9 @@ pub(crate) fn moved(bits: u128, by: u32, also: bool, left: u32) -> u128
 
 // The bits with the one at `place` set too.
 pub(crate) fn with(bits: u128, place: u32, left: u32) -> u128
-    requires { (bits < 2 ^ left) × ((place < left) × (left ≤ 126)) }
+    requires small { bits < 2 ^ left }
+    requires inside { place < left }
+    requires few { left ≤ 126 }
     ensures below { result < 2 ^ left }
     ensures bits { (i : ℕ) → bit result i ≡ (if nat_eq i place then true else bit bits i) }
 {

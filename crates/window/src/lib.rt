@@ -13,6 +13,7 @@ pub mod state;
 
 use bits::{is_set, moved, with};
 pub use state::Window;
+use std::cmp::Ordering;
 
 // The lowest of the `count` numbers from `first` on that ends in the ten bits `low`, if there is one. Among at most 1,024
 // numbers it is the only one.
@@ -28,10 +29,7 @@ pub fn recover_in(first: u32, count: u32, low: u16) -> Option<u32>
     if step >= count {
         return None;
     }
-    if step > u32::MAX - first {
-        return None;
-    }
-    Some(first + step)
+    first.checked_add(step)
 }
 
 // How many marks a window with this highest number has: one for each of the 126 numbers below it, and none below 1.
@@ -107,6 +105,7 @@ impl Window {
     }
 
     // The one number of the window that ends in the ten bits `low`, if there is one.
+    #[tactic(auto, unfolding(crate::specs::Recovery::number_for, crate::specs::Recovery::in_reach))]
     pub fn recover(&self, low: u16) -> Option<u32>
         ensures value { result ≡ recovered self.now.highest low }
         ensures only { Recovers self.now.highest low result }
@@ -118,40 +117,35 @@ impl Window {
     pub fn is_marked(&self, n: u32) -> bool
         ensures { result ≡ marked self.now n }
     {
-        if n < self.highest {
-            let place = self.highest - 1 - n;
-            place < 126 && is_set(self.marks, place)
-        } else {
-            n == self.highest && n > 0
+        match n.cmp(&self.highest) {
+            Ordering::Less => {
+                let place = self.highest - 1 - n;
+                place < 126 && is_set(self.marks, place)
+            }
+            Ordering::Equal => n > 0,
+            Ordering::Greater => false,
         }
     }
 
     // Counts a number of the window.
     fn counting(self, n: u32) -> Window
-        requires { (0 < n) × (self.highest ≤ n + 126) }
+        requires some { 0 < n }
+        requires near { self.highest ≤ n + 126 }
         ensures { Counted self n result }
     {
-        if n > self.highest {
-            let marks = moved(
-                self.marks,
-                n - self.highest,
-                self.highest > 0,
-                mark_count(n),
-            );
-            return Window { highest: n, marks };
-        }
-        if n < self.highest {
-            let marks = with(self.marks, self.highest - 1 - n, mark_count(self.highest));
-            return Window {
-                highest: self.highest,
-                marks,
-            };
-        }
-        self
+        let highest = n.max(self.highest);
+        let left = mark_count(highest);
+        let marks = match n.cmp(&self.highest) {
+            Ordering::Less => with(self.marks, self.highest - 1 - n, left),
+            Ordering::Equal => self.marks,
+            Ordering::Greater => moved(self.marks, n - self.highest, self.highest > 0, left),
+        };
+        Window { highest, marks }
     }
 
     // Counts the number: it is marked then, and the highest is the greater of the two. A number outside the window changes
     // nothing.
+    #[tactic(auto, using(crate::proofs::Counting::not_counted))]
     pub fn count(self, n: u32) -> Window
         ensures value { result ≡ counted self n }
         ensures counts { in_window self.highest n ≡ true → Counted self n result }
@@ -165,6 +159,7 @@ impl Window {
 }
 
 // No number is counted twice: the law is this function's contract.
+#[tactic(auto, using(crate::proofs::Replay::no_replay))]
 pub fn no_replay() -> u8
     ensures { NoReplay }
 {

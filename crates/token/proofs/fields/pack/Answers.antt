@@ -1,24 +1,27 @@
-use Rattle.std.proofs.Common.{arith}
+use Rattle.std.proofs.Common.{◌≡◌, ⊎_elim, inl, inr, arith}
+use Rattle.token.specs.Widths.{packed}
 use Rattle.token.proofs.Packs.{packs}
-use Rattle.token.proofs.Turns.{fit_length, one_of, turn, left_all}
+use Rattle.token.proofs.Turns.{Turn, turn, in_word, left_none}
 use Rattle.token.proofs.fields.pack.Goals as goal
+use Rattle.token.proofs.fields.pack.Goals.{In-Some}
+
+here : (c : In-Some) → Turn c.in-Some.width.now c.in-Some.value.now c.next.new.self.a.rest.now c.next.new.self.b.rest.now (packed c.args.widths.now c.args.values.now) c.loop-width.word
+here c =
+    let h = c.in-Some.ensures.steps in
+    turn _ _ _ _ _ _ (in_word c.args.widths.now c.args.values.now c.requires.fits c.requires.room) (rw (h.0, h.1) at c.loop-width.invariant)
 
 pub overflow_shl-word : goal.overflow_shl-word
-overflow_shl-word c = omega (arith, one_of c.args.widths.now c.loop-i.i, c.requires.room)
-
-pub bounds-values-i : goal.bounds-values-i
-bounds-values-i c = omega (arith, fit_length c.args.widths.now c.args.values.now c.requires.fits)
+overflow_shl-word c = (here (goal.at.overflow_shl-word c).In-Some).narrow
 
 pub overflow_add-word : goal.overflow_add-word
-overflow_add-word c = let t = turn c.args.widths.now c.args.values.now c.loop-i.i c.loop-i.word c.loop-i-test.true c.requires.fits c.requires.room c.loop-i.invariant in
-    omega (arith, t.0)
+overflow_add-word c = omega (arith, (here (goal.at.overflow_add-word c).In-Some).fits)
 
-pub loop-i-preserved : goal.loop-i-preserved
-loop-i-preserved c = (turn c.args.widths.now c.args.values.now c.loop-i.i c.loop-i.word c.loop-i-test.true c.requires.fits c.requires.room c.loop-i.invariant).1
+pub loop-width-preserved : goal.loop-width-preserved
+loop-width-preserved c = (here (goal.at.loop-width-preserved c).In-Some).next
 
 pub returns : goal.returns
 returns c =
     let ws = c.args.widths.now in
     let vs = c.args.values.now in
-    let e = left_all ws vs c.loop-i.i c.loop-i.word c.loop-i-test.false c.loop-i.invariant in
+    let e : c.loop-width.word ≡ packed ws vs = left_none _ _ _ _ c.loop-width.invariant (⊎_elim (λ p. inl p.1.0) (λ p. inr p.1.0) c.in-None.ensures.steps) in
     record { value = e; bound = rw e ((packs ws).below vs c.requires.fits) }

@@ -1,38 +1,42 @@
-use Rattle.std.proofs.Common.{◌≡◌, ℕ, ◌+◌, ◌-◌, ◌*◌, ◌%◌, ◌^◌, ◌<◌, length, get_or, replicate, sym, ◌∙◌, arith}
+use Rattle.std.proofs.Common.{◌≡◌, ℕ, ◌*◌, ◌%◌, ◌^◌, ◌<◌, replicate, sym, ◌∙◌, arith, rules}
 use lib.ListN.{length-replicate}
 use Rattle.std.proofs.lemmas.Nat.{one_shl, pow_pos}
-use Rattle.token.proofs.Turns.{Behind, one_of, behind_none, behind_more}
+use Rattle.token.proofs.Turns.{Back, turn_back, behind_none}
+use Rattle.token.proofs.fields.unpack.Given.{Over}
 use Rattle.token.proofs.fields.unpack.Goals as goal
+use Rattle.token.proofs.fields.unpack.Goals.{In-Some}
+
+here : (g : Over) (c : In-Some g) → Back c.args.widths.now c.loop-i.fields c.next.new.self.iter.iter.rest.now c.args.word c.loop-i.left c.in-Some.width.now c.in-Some.i
+here g c =
+    let h = c.in-Some.ensures.steps in
+    turn_back c.args.widths.now c.loop-i.fields _ _ c.args.word c.loop-i.left _ _ h.1.0 (omega (arith, h.1.1, c.loop-i.invariant.first)) c.loop-i.invariant.behind
+
+narrow : (g : Over) (c : In-Some g) → c.in-Some.width.now < 64
+narrow g c = omega (arith, (here g c).narrow, c.requires.room)
 
 pub loop-i-init : goal.loop-i-init
 loop-i-init g c =
-    let e : length c.args.widths.now ≡ g.row.N = c.requires.long in
-    behind_none c.args.widths.now (replicate g.row.N 0) c.args.word g.row.N (length-replicate {A = ℕ} g.row.N 0 ∙ sym c.requires.long) (omega arith)
+    let b = behind_none c.args.widths.now (replicate g.row.N 0) c.args.word (length-replicate {A = ℕ} g.row.N 0 ∙ sym c.requires.long) in
+    let i = c.into_iter-i-iterator.result in
+    let start : i.iter.count ≡ 0 = search rules in
+    let all : i.iter.iter.rest.now ≡ c.args.widths.now = search rules in
+    record { first = start; behind = rw all b }
 
 pub overflow_shl-fields : goal.overflow_shl-fields
-overflow_shl-fields g c = omega (arith, one_of c.args.widths.now (c.loop-i.i - 1))
+overflow_shl-fields g c = narrow g (goal.at.overflow_shl-fields g c).In-Some
 
 pub nonzero_rem-fields : goal.nonzero_rem-fields
 nonzero_rem-fields g c =
-    let w = get_or c.args.widths.now (c.loop-i.i - 1) 0 in
-    let h : w < 64 = omega (arith, one_of c.args.widths.now (c.loop-i.i - 1)) in
-    omega (arith, one_shl w 64 h, pow_pos w)
+    let w = c.in-Some.width.now in
+    omega (arith, one_shl w 64 (narrow g (goal.at.nonzero_rem-fields g c).In-Some), pow_pos w)
 
 pub overflow_shr-left : goal.overflow_shr-left
-overflow_shr-left g c = omega (arith, one_of c.args.widths.now (c.loop-i.i - 1))
+overflow_shr-left g c = narrow g (goal.at.overflow_shr-left g c).In-Some
 
 pub loop-i-preserved : goal.loop-i-preserved
 loop-i-preserved g c =
-    let ws = c.args.widths.now in
-    let i = c.loop-i.i - 1 in
-    let e : length ws ≡ g.row.N = c.requires.long in
-    let one : i + 1 ≡ c.loop-i.i = omega arith in
-    let w = get_or ws i 0 in
-    let whole : 1 * 2 ^ w % 2 ^ 64 ≡ 2 ^ w = one_shl w 64 (omega (arith, one_of ws i)) in
-    let b : Behind ws c.loop-i.fields c.args.word (i + 1) c.loop-i.left = rw one c.loop-i.invariant in
-    rw whole (behind_more ws c.loop-i.fields c.args.word i c.loop-i.left (omega arith) b)
-
-pub returns : goal.returns
-returns g c =
-    let z : c.loop-i.i ≡ 0 = omega arith in
-    (rw z at c.loop-i.invariant).fields
+    let s = (goal.at.loop-i-preserved g c).In-Some in
+    let h = c.in-Some.ensures.steps in
+    let w = c.in-Some.width.now in
+    let whole : 1 * 2 ^ w % 2 ^ 64 ≡ 2 ^ w = one_shl w 64 (narrow g s) in
+    record { first = h.0 ∙ c.loop-i.invariant.first; behind = rw whole (here g s).next }

@@ -1,7 +1,6 @@
-use Rattle.std.proofs.Common.{map}
+use Rattle.std.proofs.Common.{◌≡◌, ◌++◌, map, take, drop}
 use Rattle.token.specs.FurtherBlocks.{part_of}
-use Rattle.token.proofs.Numbered.{Turned}
 use Rattle.token.proofs.further.strip_sequences.Given as goal
 
 abbrev pub invariant-loop-block : goal.invariant-loop-block
-invariant-loop-block l = Turned (map part_of) l.initial.blocks l.blocks l.block-index
+invariant-loop-block l = l.blocks ≡ map part_of (take l.block-index l.initial.blocks) ++ drop l.block-index l.initial.blocks

@@ -1,14 +1,16 @@
-use Rattle.std.proofs.Common.{◌≡◌, true, rules}
-use Rattle.token.specs.RatePrices.{fits}
-use Rattle.token.proofs.RateLaws.{read_back}
-use Rattle.token.proofs.Written.{written_is}
+use Rattle.std.proofs.Common.{◌≡◌, true, ap, ◌∙◌, rules}
+use Rattle.std.proofs.lemmas.Float.{T_from_true}
+use Rattle.token.specs.FurtherBlocks.{carriable}
+use Rattle.token.specs.RatePrices.{fits, tariff_in}
+use Rattle.token.proofs.RateLaws.{back, parts-carriable}
 use Rattle.token.proofs.rates.rate_parts.Goals as goal
 
-pub returns : goal.returns
-returns c =
-    let t = c.args.t.now in
-    let s = c.args.size in
-    let f : fits t s ≡ true = search rules in
-    let v = written_is t s c.first_part.result c.second_part.result c.third_part.result c.part_count.result f
-    c.part_count.ensures c.first_part.ensures.value c.second_part.ensures.value c.third_part.ensures.value in
-    record { value = v; back = read_back t s _ v f }
+pub invariant_of-result : goal.invariant_of-result
+invariant_of-result c =
+    let f : fits c.args.t.now c.in_ok-size.size.code ≡ true = search rules in
+    record { ok = T_from_true _ (ap carriable c.words_of-words.ensures ∙ parts-carriable c.args.t.now c.in_ok-size.size.code f) }
+
+pub returns-clause-back : goal.returns-clause-back
+returns-clause-back c =
+    let f : fits c.args.t.now c.in_ok-size.size.code ≡ true = search rules in
+    ap tariff_in c.words_of-words.ensures ∙ back c.args.t.now c.in_ok-size.size.code f

@@ -1,22 +1,14 @@
-use Rattle.std.proofs.Common.{◌≡◌, ℕ, ◌+◌, ◌-◌, ◌<◌, ◌&&◌, eqb, List, length, get_or, drop, sym, ap, ◌∙◌, arith, length-drop}
-use Rattle.std.proofs.lemmas.List.{at_drop_more, at_drop_all}
-use Rattle.std.proofs.lemmas.Bool.Decides.{nat_tests}
-use Rattle.token.specs.FurtherBlocks.{sequence_of, sequenced}
+use Rattle.std.proofs.Common.{eqb, sym, ◌∙◌, rules, tests}
+use Rattle.std.proofs.lemmas.Iterator.Search.{all_from_yields_List}
+use Rattle.std.proofs.lemmas.Iterator.Consumers.{YieldsList-from_enumerate}
+use Rattle.std.proofs.lemmas.Iterator.Adapters.{YieldsList-from_rev_slice}
+use Rattle.token.specs.FurtherBlocks.{sequence_of}
+use Rattle.token.proofs.Numbered.{sequenced_is}
 use Rattle.token.proofs.shape.in_sequence.Goals as goal
 
--- the test at one block, and the rest
-step : (bs : List ℕ) (i : ℕ) → i < length bs → sequenced (drop i bs) ≡ (eqb (sequence_of (get_or bs i 0)) (length bs - 1 - i) && sequenced (drop (i + 1) bs))
-step bs i h =
-    at_drop_more sequenced bs i 0 h
-    ∙ ap (λ (k : ℕ). eqb (sequence_of (get_or bs i 0)) k && sequenced (drop (i + 1) bs)) (length-drop (i + 1) bs ∙ omega arith)
-
-pub returns-then-sequence_of-further : goal.returns-then-sequence_of-further
-returns-then-sequence_of-further c = let s = step c.args.further.now c.loop-i.i c.loop-i-test.true in
-    grind (arith, nat_tests)
-
-pub loop-i-preserved : goal.loop-i-preserved
-loop-i-preserved c = let s = step c.args.further.now c.loop-i.i c.loop-i-test.true in
-    grind (arith, nat_tests)
-
 pub returns : goal.returns
-returns c = sym (at_drop_all sequenced c.args.further.now c.loop-i.i c.loop-i-test.false) ∙ c.loop-i.invariant
+returns c =
+    let bs = c.args.further.now in
+    all_from_yields_List (λ p. eqb (sequence_of p.1) p.0) _ _ _ c.all.ensures.ran
+    (YieldsList-from_enumerate (YieldsList-from_rev_slice bs (cc)) (cc)) (λ x b q k. search (rules, tests))
+    ∙ sym (sequenced_is bs)

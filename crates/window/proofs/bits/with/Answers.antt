@@ -4,6 +4,6 @@ use Rattle.window.proofs.bits.with.Goals as goal
 
 pub returns : goal.returns
 returns c = record {
-  below = set_below c.args.left c.args.bits c.args.place c.requires.0 (omega arith) (omega arith);
+  below = set_below c.args.left c.args.bits c.args.place c.requires.small (omega arith) (omega arith);
   bits = λ i. set-bits c.args.bits c.args.place i (omega arith);
 }

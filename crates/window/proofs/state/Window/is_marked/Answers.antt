@@ -15,10 +15,10 @@ returns-else-place-lt126 c =
     let w = c.args.self.now in
     grind (arith, nat_tests, far_bit w (w.highest - 1 - c.args.n) (omega arith))
 
-pub returns-then-n-self-2 : goal.returns-then-n-self-2
+pub returns-in-Equal : goal.returns-in-Equal
 unfolding marked
-returns-then-n-self-2 c = grind (arith, nat_tests)
+returns-in-Equal c = grind (arith, nat_tests)
 
-pub returns-else-n-self-2 : goal.returns-else-n-self-2
+pub returns-in-Greater : goal.returns-in-Greater
 unfolding marked
-returns-else-n-self-2 c = grind (arith, nat_tests)
+returns-in-Greater c = grind (arith, nat_tests)
