@@ -20,12 +20,8 @@ pub(crate) fn check_group(group: &[u8], before: Option<u8>) -> Result<u8, Refusa
     requires digit { DigitBefore before }
     ensures { result ≡ checked_group before group.now }
 {
-    let Some(expected) = check_digit_after(before, &group[0..19]) else {
-        return Err(Refusal::NotADigit);
-    };
-    let Some(last) = digit_of(group[19]) else {
-        return Err(Refusal::NotADigit);
-    };
+    let expected = check_digit_after(before, &group[0..19]).ok_or(Refusal::NotADigit)?;
+    let last = digit_of(group[19]).ok_or(Refusal::NotADigit)?;
     if last != expected {
         return Err(Refusal::CheckDigit);
     }
@@ -79,11 +75,11 @@ fn words_of(text: &[u8]) -> Result<[u64; 4], Refusal>
     Ok(words)
 }
 
+#[tactic(auto, unfolding(crate::specs::Groups::grouped))]
 fn is_grouped(text: &[u8]) -> bool
     ensures { result ≡ grouped text.now }
 {
-    let n = text.len();
-    n == 20 || n == 40 || n == 60 || n == 80
+    matches!(text.len(), 20 | 40 | 60 | 80)
 }
 
 // The blocks of an entry. Each check looks at the whole entry before the next begins.

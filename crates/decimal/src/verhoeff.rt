@@ -32,15 +32,18 @@ const POWERS: [[u8; 10]; 8] = [
 ];
 
 fn times(a: u8, b: u8) -> u8
-    requires { (a < 10) × (b < 10) }
-    ensures { (result ≡ product a b) × (result < 10) }
+    requires left { a < 10 }
+    requires right { b < 10 }
+    ensures value { result ≡ product a b }
+    ensures digit { result < 10 }
 {
     PRODUCT[a as usize][b as usize]
 }
 
 fn passed(place: usize, digit: u8) -> u8
     requires { digit < 10 }
-    ensures { (result ≡ passes place digit) × (result < 10) }
+    ensures value { result ≡ passes place digit }
+    ensures digit { result < 10 }
 {
     POWERS[place % 8][digit as usize]
 }
@@ -61,9 +64,7 @@ fn closing(place: usize, start: u8, text: &[u8]) -> Option<u8>
 {
     let mut product = start;
     for (i, byte) in text.iter().enumerate() {
-        let Some(digit) = digit_of(*byte) else {
-            return None;
-        };
+        let digit = digit_of(*byte)?;
         product = times(product, passed(place + i, digit));
     }
     Some(undone(product))

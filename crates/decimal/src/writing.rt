@@ -26,12 +26,7 @@ fn write_group(number: u64, before: Option<u8>, group: &mut [u8]) -> u8
 fn all_below(blocks: &[u64]) -> bool
     ensures { result ≡ every is_block blocks.now }
 {
-    for block in blocks {
-        if *block >= 1 << 61 {
-            return false;
-        }
-    }
-    true
+    blocks.iter().all(|block| *block < 1 << 61)
 }
 
 fn is_writable(blocks: &[u64]) -> bool

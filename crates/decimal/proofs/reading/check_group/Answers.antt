@@ -1,26 +1,45 @@
-use Rattle.std.proofs.Common.{Ok, sym, ap, ◌∙◌}
+use Rattle.std.proofs.Common.{◌≡◌, ℕ, None, Some, Ok, Err, Result, sym, ap, ◌∙◌}
+use Rattle.std.specs.Option.{ok_or}
+use Rattle.std.specs.Result.{result_ok}
 use Rattle.std.proofs.lemmas.Bool.{eq-eqb, ne_eqb}
-use Rattle.refusal.specs.declared.Refusal.TheVariants.{CheckDigit}
+use Rattle.std.proofs.lemmas.Result.{err_from_is_err_and}
+use Rattle.refusal.specs.declared.Refusal.{Refusal}
+use Rattle.refusal.specs.declared.Refusal.TheVariants.{NotADigit, CheckDigit}
 use Rattle.refusal.specs.Checks.{provided}
+use Rattle.decimal.specs.Groups.{checked_group}
 use Rattle.decimal.proofs.Grouping.{group_undigit, group_unlast, group_digits}
 use Rattle.decimal.proofs.reading.check_group.Goals as goal
 
-pub returns-in_default : goal.returns-in_default
-returns-in_default c = group_undigit c.args.before c.args.group.now c.requires.twenty c.in_default.ensures.value
+pub returns-in_err-expected : goal.returns-in_err-expected
+returns-in_err-expected c =
+    let none = c.ok_or.ensures.ok_part ∙ ap result_ok c.in_err-expected.was in
+    let why : Err c.in_err-expected.field-0.0 ≡ Err NotADigit = sym c.in_err-expected.was ∙ c.ok_or.ensures.value ∙ ap (λ o. ok_or o NotADigit) none in
+    let p = err_from_is_err_and c.from_residual.result c.from_residual.ensures.1 in
+    p.1 ∙ ap Err p.2 ∙ why ∙ group_undigit c.args.before c.args.group.now c.requires.twenty (sym none ∙ c.check_digit_after.ensures.value)
 
-pub returns-in_default-digit_of : goal.returns-in_default-digit_of
-returns-in_default-digit_of c = group_unlast c.args.before c.args.group.now c.in-Some.expected c.requires.twenty c.in-Some.ensures.value c.in_default-digit_of.ensures
+pub returns-in_err-last : goal.returns-in_err-last
+returns-in_err-last c =
+    let some = c.ok_or.ensures.ok_part ∙ ap result_ok c.in_ok-expected.was in
+    let none = c.ok_or-2.ensures.ok_part ∙ ap result_ok c.in_err-last.was in
+    let why : Err c.in_err-last.field-0.0 ≡ Err NotADigit = sym c.in_err-last.was ∙ c.ok_or-2.ensures.value ∙ ap (λ o. ok_or o NotADigit) none in
+    let p = err_from_is_err_and c.from_residual-in_err-last.result c.from_residual-in_err-last.ensures.1 in
+    p.1 ∙ ap Err p.2 ∙ why
+    ∙ group_unlast c.args.before c.args.group.now c.in_ok-expected.expected c.requires.twenty (sym some ∙ c.check_digit_after.ensures.value) (sym none ∙ c.digit_of.ensures)
 
 pub returns-then-last-expected : goal.returns-then-last-expected
 returns-then-last-expected c =
-    let d = c.in-Some-digit_of.last in
-    let e = c.in-Some.expected in
-    let f = ne_eqb d e c.if-last-expected.true in
-    sym (group_digits c.args.before c.args.group.now e d c.requires.twenty c.in-Some.ensures.value c.in-Some-digit_of.ensures ∙ ap (λ b. provided b CheckDigit (Ok d)) f)
+    let d = c.in_ok-last.last in
+    let e = c.in_ok-expected.expected in
+    let some = c.ok_or.ensures.ok_part ∙ ap result_ok c.in_ok-expected.was in
+    let last = c.ok_or-2.ensures.ok_part ∙ ap result_ok c.in_ok-last.was in
+    let g = group_digits c.args.before c.args.group.now e d c.requires.twenty (sym some ∙ c.check_digit_after.ensures.value) (sym last ∙ c.digit_of.ensures) in
+    sym (g ∙ ap (λ b. provided b CheckDigit (Ok d)) (ne_eqb d e c.if-last-expected.true))
 
 pub returns : goal.returns
 returns c =
-    let d = c.in-Some-digit_of.last in
-    let e = c.in-Some.expected in
-    let f = eq-eqb d e c.if-last-expected.false in
-    sym (group_digits c.args.before c.args.group.now e d c.requires.twenty c.in-Some.ensures.value c.in-Some-digit_of.ensures ∙ ap (λ b. provided b CheckDigit (Ok d)) f)
+    let d = c.in_ok-last.last in
+    let e = c.in_ok-expected.expected in
+    let some = c.ok_or.ensures.ok_part ∙ ap result_ok c.in_ok-expected.was in
+    let last = c.ok_or-2.ensures.ok_part ∙ ap result_ok c.in_ok-last.was in
+    let g = group_digits c.args.before c.args.group.now e d c.requires.twenty (sym some ∙ c.check_digit_after.ensures.value) (sym last ∙ c.digit_of.ensures) in
+    sym (g ∙ ap (λ b. provided b CheckDigit (Ok d)) (eq-eqb d e c.if-last-expected.false))
