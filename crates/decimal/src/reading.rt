@@ -1,10 +1,11 @@
 // From text to blocks.
-ghost use Rattle.std.specs.Prelude.{◌≡◌, ◌+◌, ◌*◌, ◌≤◌, true, length, IfOk, Ok};
+ghost use Rattle.std.specs.Prelude.{◌≡◌, ◌-◌, ◌&&◌, true, take, IfOk, Ok, nat_le};
+ghost use Rattle.std.specs.Int.Digits.{number_from_digits};
 ghost use Rattle.refusal.specs.Checks.{provided};
 ghost use Rattle.refusal.specs.declared.Refusal.TheVariants.{CheckDigit, NoBlock};
 ghost use Rattle.decimal.specs.Digits.{is_digit, every, values};
 ghost use Rattle.decimal.specs.CheckDigits.{DigitBefore};
-ghost use Rattle.decimal.specs.Groups.{grouped, all_sealed, all_blocks, checked_group, lowest, has_block, block_at, words_in, blocks_of, Sound};
+ghost use Rattle.decimal.specs.Groups.{grouped, all_sealed, all_blocks, checked_group, lowest, is_block, blocks_in, blocks_of, Sound};
 
 use crate::blocks::Blocks;
 use crate::text::{all_digits, digit_of, number_of};
@@ -15,9 +16,8 @@ use refusal::Refusal;
 const OFFSET: u64 = 7394156990786306048;
 
 // Checks the digits and the check digit of one group, given the check digit of the group before it, and answers its own.
-pub(crate) fn check_group(group: &[u8], before: Option<u8>) -> Result<u8, Refusal>
-    requires twenty { length group.now ≡ 20 }
-    requires digit { DigitBefore before }
+pub(crate) fn check_group(group: &[u8; 20], before: Option<u8>) -> Result<u8, Refusal>
+    requires { DigitBefore before }
     ensures { result ≡ checked_group before group.now }
 {
     let expected = check_digit_after(before, &group[0..19]).ok_or(Refusal::NotADigit)?;
@@ -33,9 +33,10 @@ fn check_groups(text: &[u8]) -> Result<(), Refusal>
     requires { every is_digit text.now ≡ true }
     ensures { result ≡ provided (all_sealed text.now) CheckDigit (Ok tt) }
 {
+    let (groups, _) = text.as_chunks::<20>();
     let mut before = None;
-    for i in 0..text.len() / 20 {
-        before = Some(check_group(&text[20 * i..20 * i + 20], before)?);
+    for group in groups {
+        before = Some(check_group(group, before)?);
     }
     Ok(())
 }
@@ -47,32 +48,29 @@ pub(crate) fn lowest_number(i: usize) -> u64
     if i == 0 { OFFSET } else { 0 }
 }
 
-fn block_at(text: &[u8], i: usize) -> Result<u64, Refusal>
-    requires decimal { every is_digit text.now ≡ true }
-    requires there { 20 * i + 20 ≤ length text.now }
-    ensures { result ≡ provided (has_block (values text.now) i) NoBlock (Ok (block_at (values text.now) i)) }
+// The block of one group, by its place.
+fn block_of(group: &[u8; 20], i: usize) -> Result<u64, Refusal>
+    requires { every is_digit group.now ≡ true }
+    ensures { let n = number_from_digits 10 (values (take 19 group.now)) in result ≡ provided (nat_le (lowest i) n && is_block (n - lowest i)) NoBlock (Ok (n - lowest i)) }
 {
-    let n = number_of(&text[20 * i..20 * i + 19]);
-    let lowest = lowest_number(i);
-    if n < lowest {
-        return Err(Refusal::NoBlock);
-    }
-    if n - lowest >= 1 << 61 {
-        return Err(Refusal::NoBlock);
-    }
-    Ok(n - lowest)
+    number_of(&group[0..19])
+        .checked_sub(lowest_number(i))
+        .filter(|block| *block < 1 << 61)
+        .ok_or(Refusal::NoBlock)
 }
 
-fn words_of(text: &[u8]) -> Result<[u64; 4], Refusal>
+// Every group's block.
+fn all_of(text: &[u8]) -> Result<Blocks, Refusal>
     requires decimal { every is_digit text.now ≡ true }
     requires whole { grouped text.now ≡ true }
-    ensures { result ≡ provided (all_blocks text.now) NoBlock (Ok (words_in text.now)) }
+    ensures { result ≡ provided (all_blocks text.now) NoBlock (Ok (record { items = blocks_in text.now })) }
 {
-    let mut words = [0; 4];
-    for i in 0..text.len() / 20 {
-        words[i] = block_at(text, i)?;
+    let (groups, _) = text.as_chunks::<20>();
+    let mut blocks = Blocks::new();
+    for (i, group) in groups.iter().enumerate() {
+        blocks.push(block_of(group, i)?);
     }
-    Ok(words)
+    Ok(blocks)
 }
 
 #[tactic(auto, unfolding(crate::specs::Groups::grouped))]
@@ -85,7 +83,7 @@ fn is_grouped(text: &[u8]) -> bool
 // The blocks of an entry. Each check looks at the whole entry before the next begins.
 pub fn read_blocks(text: &[u8]) -> Result<Blocks, Refusal>
     ensures value { result ≡ blocks_of text.now }
-    ensures bounds { IfOk result Sound }
+    ensures bounds { IfOk result (λ blocks. Sound blocks.items) }
 {
     if !is_grouped(text) {
         return Err(Refusal::Length);
@@ -94,9 +92,5 @@ pub fn read_blocks(text: &[u8]) -> Result<Blocks, Refusal>
         return Err(Refusal::NotADigit);
     }
     check_groups(text)?;
-    let words = words_of(text)?;
-    Ok(Blocks {
-        groups: text.len() / 20,
-        words,
-    })
+    all_of(text)
 }

@@ -1,11 +1,10 @@
 -- Whether a sale can be sold, test by test: with_class; unserved, uncoded, sold.
-use Rattle.std.proofs.Common.{◌≡◌, Bool, true, false, cond, ◌&&◌, ◌∷◌, Some, None, Option, sym, refl, ap, ◌∙◌}
+use Rattle.std.proofs.Common.{◌≡◌, ℕ, Bool, true, false, cond, ◌&&◌, ◌∷◌, Some, None, Option, sym, refl, ap, ◌∙◌}
 use Rattle.token.specs.declared.subclass.SubClass.{SubClass}
 use Rattle.token.specs.SubClasses.{sub_classes, sub_class_of, served, sub_class_named}
 use Rattle.token.specs.FurtherBlocks.{numbered}
 use Rattle.token.proofs.Shapes.{finds, misses}
-use Rattle.decimal.specs.declared.blocks.Blocks.{Blocks}
-use Rattle.sealing.specs.Through.{as_blocks}
+use Rattle.arrayvec.specs.ArrayVec.{ArrayVec}
 use Rattle.sealing.specs.declared.settings.Settings.{Settings}
 use Rattle.sale.specs.declared.checking.Ready.{Ready}
 use Rattle.sale.specs.declared.orders.Sale.{Sale}
@@ -17,11 +16,11 @@ and_no true = refl
 and_no false = refl
 
 -- blocks that are there, with their SubClass
-abbrev pub with_class : SubClass → Option Blocks → Option Ready
+abbrev pub with_class : SubClass → Option (ArrayVec ℕ) → Option Ready
 with_class k None = None
 with_class k (Some b) = Some (record { subclass = k; blocks = b })
 
-with_cond : (k : SubClass) (b : Bool) (blocks : Blocks) → with_class k (cond b (Some blocks) None) ≡ cond b (Some (record { subclass = k; blocks = blocks })) None
+with_cond : (k : SubClass) (b : Bool) (blocks : ArrayVec ℕ) → with_class k (cond b (Some blocks) None) ≡ cond b (Some (record { subclass = k; blocks = blocks })) None
 with_cond k true blocks = refl
 with_cond k false blocks = refl
 
@@ -41,10 +40,10 @@ module _ (s : Settings) (sale : Sale) where
       (sym (ap (λ b. served sale.subclass && b) e ∙ and_no (served sale.subclass)))
 
   -- a SubClass that is served, and an amount with a code: the prices decide
-  pub sold : (k : SubClass) (o : Option Blocks) → sub_class_of sale.subclass ≡ Some k → coded s sale ≡ true →
-      o ≡ cond (priced k sale.prices) (Some (as_blocks (0 ∷ numbered (parts_sold sale.prices)))) None → ReadyOrNot (with_class k o)
+  pub sold : (k : SubClass) (o : Option (ArrayVec ℕ)) → sub_class_of sale.subclass ≡ Some k → coded s sale ≡ true →
+      o ≡ cond (priced k sale.prices) (Some (record { items = 0 ∷ numbered (parts_sold sale.prices) })) None → ReadyOrNot (with_class k o)
   unfolding salable
   sold k o is has made =
       let f = finds sub_classes sale.subclass k is in
-      ap (with_class k) made ∙ with_cond k (priced k sale.prices) (as_blocks (0 ∷ numbered (parts_sold sale.prices)))
-      ∙ (λ i. cond ((sym f.there i && sym has i) && priced (sym f.named i) sale.prices) (Some (record { subclass = sym f.named i; blocks = as_blocks (0 ∷ numbered (parts_sold sale.prices)) })) None)
+      ap (with_class k) made ∙ with_cond k (priced k sale.prices) (record { items = 0 ∷ numbered (parts_sold sale.prices) })
+      ∙ (λ i. cond ((sym f.there i && sym has i) && priced (sym f.named i) sale.prices) (Some (record { subclass = sym f.named i; blocks = record { items = 0 ∷ numbered (parts_sold sale.prices) } })) None)

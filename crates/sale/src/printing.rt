@@ -16,7 +16,7 @@ use refusal::Refusal;
 use sealing::opening::Opened;
 use sealing::settings::Settings;
 use sealing::tag::tag_field;
-use sealing::through::{Way, low_through, present_of};
+use sealing::through::{Way, low_through};
 use token::first::FirstBlock;
 use token::subclass::SubClass;
 
@@ -36,11 +36,11 @@ fn seal<C: Cipher, A: Authenticator>(
     number: u32,
     index: u16,
     sale: &Sale,
-    ready: &Ready,
+    ready: Ready,
 ) -> Blocks
     requires salable { salable settings.now sale.now ≡ true }
-    requires readied { ready.now ≡ readied sale.now }
-    ensures { result ≡ sealed_blocks (suite settings.now (C.enciphered cipher.now) (C.deciphered cipher.now) (A.tagged authenticator.now)) number index sale.now }
+    requires readied { ready ≡ readied sale.now }
+    ensures { result.items ≡ sealed_blocks (suite settings.now (C.enciphered cipher.now) (C.deciphered cipher.now) (A.tagged authenticator.now)) number index sale.now }
 {
     let first = FirstBlock {
         subclass: sale.subclass,
@@ -55,14 +55,11 @@ fn seal<C: Cipher, A: Authenticator>(
         blocks: ready.blocks,
     };
     let tmac = tag_field(authenticator, settings, number, index, &bare);
+    let mut blocks = bare.blocks;
     // A sale that can be sold has no field too wide for its place.
-    let block = FirstBlock { tmac, ..first }.pack().unwrap();
-    let [_, a, b, c] = ready.blocks.words;
-    let clear = Blocks {
-        groups: ready.blocks.groups,
-        words: [block, a, b, c],
-    };
-    low_through(cipher, Way::Encipher, ready.subclass, &clear)
+    blocks[0] = FirstBlock { tmac, ..first }.pack().unwrap();
+    low_through(cipher, Way::Encipher, ready.subclass, &mut blocks);
+    blocks
 }
 
 // Prints the slip of a sale for a number, at the index that the till keeps: digits first, the rest zero. Refused, the bytes stay as they were.
@@ -78,17 +75,13 @@ pub fn print_slip<C: Cipher, A: Authenticator>(
     ensures answer { result ≡ checked (sale_rules settings.now index sale.now) (Ok (printed_for sale.now)) }
     ensures bytes { slip.new ≡ (if issuable settings.now index sale.now then slip_for (suite settings.now (C.enciphered cipher.now) (C.deciphered cipher.now) (A.tagged authenticator.now)) number index sale.now else slip.old) }
 {
-    let Some(ready) = ready_for(settings, sale) else {
-        return Err(Refusal::Sale);
-    };
-    if !is_raisable(ready.subclass, index) {
+    let ready = ready_for(settings, sale).ok_or(Refusal::Sale)?;
+    let subclass = ready.subclass;
+    if !is_raisable(subclass, index) {
         return Err(Refusal::TillIndexFull);
     }
-    let blocks = seal(settings, cipher, authenticator, number, index, sale, &ready);
+    let blocks = seal(settings, cipher, authenticator, number, index, sale, ready);
     // One to four blocks of 61 bits can be written.
-    let length = write_blocks(present_of(&blocks), slip).unwrap();
-    Ok(Printed {
-        length,
-        subclass: ready.subclass,
-    })
+    let length = write_blocks(&blocks, slip).unwrap();
+    Ok(Printed { length, subclass })
 }
