@@ -13,24 +13,26 @@ use Rattle.refusal.specs.declared.Refusal.{Refusal}
 use Rattle.refusal.specs.declared.Refusal.TheVariants.{Length, NotADigit, CheckDigit, NoBlock}
 use Rattle.refusal.specs.Checks.{provided}
 use Rattle.arrayvec.specs.ArrayVec.{ArrayVec}
-use Rattle.decimal.specs.Digits.{is_digit, every, values}
+use Rattle.std.proofs.lemmas.List.Folds.{list_all-append}
+use Rattle.std.specs.List.{list_all}
+use Rattle.decimal.specs.Digits.{is_digit, values}
 use Rattle.decimal.specs.CheckDigits.{front, check_digit, check_digit_after, DigitBefore}
 use Rattle.decimal.specs.Groups.{before, body, sealed_at, number_at, lowest, is_block, has_block, block_at, grouped, all_digits, all_sealed, all_blocks, blocks_in, blocks_of, Sound, checked_group}
-use Rattle.decimal.proofs.Spelling.{every_append, every_take, every_drop, get_or-values}
+use Rattle.decimal.proofs.Spelling.{every_take, every_drop, get_or-values}
 use Rattle.decimal.proofs.Bounded.{up_at, up_fails}
 use Rattle.decimal.proofs.Verdicts.{was_some, was_none}
 use Rattle.refusal.proofs.Passing.{was_ok, was_err, provided_ok}
 
 -- one group by itself
-every_twenty : (p : ℕ → Bool) (t : List ℕ) → length t ≡ 20 → every p t ≡ (every p (take 19 t) && every p (get_or t 19 0 ∷ []))
+every_twenty : (p : ℕ → Bool) (t : List ℕ) → length t ≡ 20 → list_all p t ≡ (list_all p (take 19 t) && list_all p (get_or t 19 0 ∷ []))
 every_twenty p t l =
     let e : t ≡ take 19 t ++ (get_or t 19 0 ∷ []) = sym (take_all 20 t (omega arith)) ∙ take_more t 19 0 (omega arith) in
-    ap (every p) e ∙ every_append p (take 19 t) (get_or t 19 0 ∷ [])
+    ap (list_all p) e ∙ list_all-append p (take 19 t) (get_or t 19 0 ∷ [])
 
 pub group_undigit : (b : Option ℕ) (t : List ℕ) → length t ≡ 20 → None ≡ check_digit_after b (take 19 t) → Err NotADigit ≡ checked_group b t
 unfolding check_digit_after checked_group
 group_undigit b t l e =
-    let f = was_none (every is_digit (take 19 t)) _ e in
+    let f = was_none (list_all is_digit (take 19 t)) _ e in
     let g = every_twenty is_digit t l in
     rw (g, f)
 
@@ -38,7 +40,7 @@ pub group_unlast : (b : Option ℕ) (t : List ℕ) (e : ℕ) → length t ≡ 20
     None ≡ cond (is_digit (get_or t 19 0)) (Some (get_or t 19 0 - 48)) None → Err NotADigit ≡ checked_group b t
 unfolding check_digit_after checked_group
 group_unlast b t e l s n =
-    let f = was_some (every is_digit (take 19 t)) _ e s in
+    let f = was_some (list_all is_digit (take 19 t)) _ e s in
     let h = was_none (is_digit (get_or t 19 0)) _ n in
     let g = every_twenty is_digit t l in
     let k = f.0 in
@@ -48,7 +50,7 @@ pub group_digits : (b : Option ℕ) (t : List ℕ) (e d : ℕ) → length t ≡ 
     Some d ≡ cond (is_digit (get_or t 19 0)) (Some (get_or t 19 0 - 48)) None → checked_group b t ≡ provided (eqb d e) CheckDigit (Ok d)
 unfolding check_digit_after checked_group
 group_digits b t e d l s n =
-    let f = was_some (every is_digit (take 19 t)) _ e s in
+    let f = was_some (list_all is_digit (take 19 t)) _ e s in
     let h = was_some (is_digit (get_or t 19 0)) _ d n in
     let g = every_twenty is_digit t l in
     let v : get_or (values t) 19 0 ≡ d = get_or-values t 19 (omega arith) ∙ sym h.1 in
@@ -81,7 +83,7 @@ group_is t i h =
     let n : 20 ≡ 20 * i + 20 - 20 * i = omega arith in
     chunk_at (length t / 20) t i h ∙ ap (λ k. take k (drop (20 * i) t)) n
 
-pub group_digits_all : (t : List ℕ) (i : ℕ) → every is_digit t ≡ true → every is_digit (between (20 * i) (20 * i + 20) t) ≡ true
+pub group_digits_all : (t : List ℕ) (i : ℕ) → list_all is_digit t ≡ true → list_all is_digit (between (20 * i) (20 * i + 20) t) ≡ true
 group_digits_all t i e = every_take is_digit (20 * i + 20 - 20 * i) (drop (20 * i) t) (every_drop is_digit (20 * i) t e)
 
 -- its nineteen digits
@@ -92,21 +94,21 @@ group_body t i =
     let m : 19 ≡ 20 * i + 19 - 20 * i = omega arith in
     ap (take 19) (values_between (20 * i) (20 * i + 20) t ∙ ap (λ k. take k (drop (20 * i) ds)) n) ∙ take-take 19 20 (drop (20 * i) ds) (omega arith) ∙ ap (λ k. take k (drop (20 * i) ds)) m
 
-pub group_at : (t : List ℕ) (i : ℕ) → every is_digit t ≡ true → 20 * i + 20 ≤ length t →
+pub group_at : (t : List ℕ) (i : ℕ) → list_all is_digit t ≡ true → 20 * i + 20 ≤ length t →
     checked_group (before (values t) i) (between (20 * i) (20 * i + 20) t) ≡ provided (sealed_at (values t) i) CheckDigit (Ok (get_or (values t) (20 * i + 19) 0))
 unfolding checked_group sealed_at
 group_at t i e h =
     let g = between (20 * i) (20 * i + 20) t in
     let ds = values t in
     let n : 20 * i + 20 - 20 * i ≡ 20 = omega arith in
-    let f : every is_digit g ≡ true = group_digits_all t i e in
+    let f : list_all is_digit g ≡ true = group_digits_all t i e in
     let v : values g ≡ take 20 (drop (20 * i) ds) = values_between (20 * i) (20 * i + 20) t ∙ ap (λ k. take k (drop (20 * i) ds)) n in
     let x : take 19 (values g) ≡ body ds i = group_body t i in
     let y : get_or (values g) 19 0 ≡ get_or ds (20 * i + 19) 0 = ap (λ xs. get_or xs 19 0) v ∙ get_or-take 20 (drop (20 * i) ds) 19 0 (omega arith) ∙ get_or-drop (20 * i) ds 19 0 in
     rw (f, x, y)
 
 -- what checking one group says of all
-pub one_unsealed : {X : Type 0} (x : X) (t : List ℕ) (i : ℕ) (b : Option ℕ) (e : Refusal) → every is_digit t ≡ true → i < length t / 20 → b ≡ before (values t) i →
+pub one_unsealed : {X : Type 0} (x : X) (t : List ℕ) (i : ℕ) (b : Option ℕ) (e : Refusal) → list_all is_digit t ≡ true → i < length t / 20 → b ≡ before (values t) i →
     Err e ≡ checked_group b (between (20 * i) (20 * i + 20) t) → Err e ≡ provided (all_sealed t) CheckDigit (Ok x)
 unfolding all_sealed
 one_unsealed x t i b e d h f k =
@@ -116,7 +118,7 @@ one_unsealed x t i b e d h f k =
     let z = w.1 in
     rw (n, z)
 
-pub one_sealed : (t : List ℕ) (i : ℕ) (b : Option ℕ) (x : ℕ) → every is_digit t ≡ true → i < length t / 20 → b ≡ before (values t) i →
+pub one_sealed : (t : List ℕ) (i : ℕ) (b : Option ℕ) (x : ℕ) → list_all is_digit t ≡ true → i < length t / 20 → b ≡ before (values t) i →
     Ok x ≡ checked_group b (between (20 * i) (20 * i + 20) t) → (sealed_at (values t) i ≡ true) × (Some x ≡ before (values t) (i + 1))
 one_sealed t i b x d h f k =
     let g = k ∙ ap (λ b. checked_group b (between (20 * i) (20 * i + 20) t)) f ∙ group_at t i d (omega arith) in
@@ -192,7 +194,7 @@ sound t g a =
 -- What an entry that comes to blocks has passed, and what passes.
 pub record Passes (t : List ℕ) : Type 0 where
   pub in_groups : grouped t ≡ true
-  pub digits : every is_digit t ≡ true
+  pub digits : list_all is_digit t ≡ true
   pub seals : all_sealed t ≡ true
   pub blocks : all_blocks t ≡ true
 

@@ -9,8 +9,10 @@ use Rattle.std.proofs.lemmas.Int.Digits.{number_push, number_more, number_lt}
 use Rattle.std.proofs.ByRecursion.{All-get_or, All-take, All-push}
 use Rattle.std.proofs.lemmas.List.{take_more, take_all, drop-set, length_push, length-map, length-append, map_push}
 use Rattle.std.proofs.lemmas.Nat.{div-add-mod', div-mul-add, mod-mul-add, div_below, mod_below}
-use Rattle.decimal.specs.Digits.{is_digit, every, values, spelled, padded}
-use Rattle.decimal.proofs.Spelling.{every_append, digit_in, under-values}
+use Rattle.std.proofs.lemmas.List.Folds.{list_all-append}
+use Rattle.std.specs.List.{list_all}
+use Rattle.decimal.specs.Digits.{is_digit, values, spelled, padded}
+use Rattle.decimal.proofs.Spelling.{digit_in, under-values}
 
 pub there : (b : ℕ) → 0 < b → (k n : ℕ) → n < b ^ k → number_from_digits b (padded b k n) ≡ n
 unfolding padded
@@ -60,11 +62,11 @@ length-padded b zero n = refl
 length-padded b (suc k) n = length_push (padded b k (n / b)) (n % b) ∙ ap (λ m. m + 1) (length-padded b k (n / b)) ∙ add-one k
 
 -- a byte behind others of decimal text is a digit, and the number with it fits
-pub number_step : (pre : List ℕ) (x : ℕ) (post : List ℕ) → every is_digit (pre ++ x ∷ post) ≡ true → length (pre ++ x ∷ post) ≤ 19 →
+pub number_step : (pre : List ℕ) (x : ℕ) (post : List ℕ) → list_all is_digit (pre ++ x ∷ post) ≡ true → length (pre ++ x ∷ post) ≤ 19 →
     (48 ≤ x) × (number_from_digits 10 (values pre) * 10 + (x - 48) < 10 ^ 19)
 number_step pre x post e s =
-    let p = and_parts (every is_digit pre) (every is_digit (x ∷ post)) (sym (every_append is_digit pre (x ∷ post)) ∙ e) in
-    let q = and_parts (is_digit x) (every is_digit post) p.1 in
+    let p = and_parts (list_all is_digit pre) (list_all is_digit (x ∷ post)) (sym (list_all-append is_digit pre (x ∷ post)) ∙ e) in
+    let q = and_parts (is_digit x) (list_all is_digit post) p.1 in
     let d = digit_in x q.0 in
     let ds = values pre ++ (x - 48) ∷ [] in
     let b = number_lt 10 ds (All-push (λ d. d < 10) (values pre) (x - 48) (under-values pre p.0) (omega arith)) in

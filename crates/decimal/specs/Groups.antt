@@ -9,7 +9,8 @@ use Rattle.refusal.specs.declared.Refusal.{Refusal}
 use Rattle.refusal.specs.declared.Refusal.TheVariants.{Length, NotADigit, CheckDigit, NoBlock}
 use Rattle.refusal.specs.Checks.{provided}
 use Rattle.arrayvec.specs.ArrayVec.{ArrayVec}
-use Rattle.decimal.specs.Digits.{is_digit, every, up_to, values}
+use Rattle.std.specs.List.{list_all}
+use Rattle.decimal.specs.Digits.{is_digit, up_to, values}
 use Rattle.decimal.specs.CheckDigits.{front, check_digit}
 
 -- what the number of a first group is where its block is 0
@@ -52,7 +53,7 @@ unfoldable pub grouped : List ℕ → Bool
 grouped text = length text == 20 || length text == 40 || length text == 60 || length text == 80
 
 unfoldable pub all_digits : List ℕ → Bool
-all_digits text = every is_digit text
+all_digits text = list_all is_digit text
 
 unfoldable pub all_sealed : List ℕ → Bool
 all_sealed text = up_to (sealed_at (values text)) (length text / 20)
@@ -82,6 +83,6 @@ pub record Sound (blocks : List ℕ) : Type 0 where
 -- The tests of digits and of the check digit for the text of one group; where both hold, its own check digit.
 unfoldable pub checked_group : Option ℕ → List ℕ → Result ℕ Refusal
 checked_group earlier text =
-    provided (every is_digit text) NotADigit
+    provided (list_all is_digit text) NotADigit
     (provided (slice_index (values text) 19 == check_digit (front earlier ++ take 19 (values text))) CheckDigit
     (Ok (slice_index (values text) 19)))

@@ -3,7 +3,8 @@ ghost use Rattle.std.specs.Prelude.{◌≡◌, ◌-◌, ◌&&◌, true, take, If
 ghost use Rattle.std.specs.Int.Digits.{number_from_digits};
 ghost use Rattle.refusal.specs.Checks.{provided};
 ghost use Rattle.refusal.specs.declared.Refusal.TheVariants.{CheckDigit, NoBlock};
-ghost use Rattle.decimal.specs.Digits.{is_digit, every, values};
+ghost use Rattle.std.specs.List.{list_all};
+ghost use Rattle.decimal.specs.Digits.{is_digit, values};
 ghost use Rattle.decimal.specs.CheckDigits.{DigitBefore};
 ghost use Rattle.decimal.specs.Groups.{grouped, all_sealed, all_blocks, checked_group, lowest, is_block, blocks_in, blocks_of, Sound};
 
@@ -30,7 +31,7 @@ pub(crate) fn check_group(group: &[u8; 20], before: Option<u8>) -> Result<u8, Re
 
 // Every group's check digit. That all bytes are digits is known by now: a byte that is none, in whichever group, is told first.
 fn check_groups(text: &[u8]) -> Result<(), Refusal>
-    requires { every is_digit text.now ≡ true }
+    requires { list_all is_digit text.now ≡ true }
     ensures { result ≡ provided (all_sealed text.now) CheckDigit (Ok tt) }
 {
     let (groups, _) = text.as_chunks::<20>();
@@ -50,7 +51,7 @@ pub(crate) fn lowest_number(i: usize) -> u64
 
 // The block of one group, by its place.
 fn block_of(group: &[u8; 20], i: usize) -> Result<u64, Refusal>
-    requires { every is_digit group.now ≡ true }
+    requires { list_all is_digit group.now ≡ true }
     ensures { let n = number_from_digits 10 (values (take 19 group.now)) in result ≡ provided (nat_le (lowest i) n && is_block (n - lowest i)) NoBlock (Ok (n - lowest i)) }
 {
     number_of(&group[0..19])
@@ -60,8 +61,8 @@ fn block_of(group: &[u8; 20], i: usize) -> Result<u64, Refusal>
 }
 
 // Every group's block.
-fn all_of(text: &[u8]) -> Result<Blocks, Refusal>
-    requires decimal { every is_digit text.now ≡ true }
+fn blocks_in(text: &[u8]) -> Result<Blocks, Refusal>
+    requires decimal { list_all is_digit text.now ≡ true }
     requires whole { grouped text.now ≡ true }
     ensures { result ≡ provided (all_blocks text.now) NoBlock (Ok (record { items = blocks_in text.now })) }
 {
@@ -92,5 +93,5 @@ pub fn read_blocks(text: &[u8]) -> Result<Blocks, Refusal>
         return Err(Refusal::NotADigit);
     }
     check_groups(text)?;
-    all_of(text)
+    blocks_in(text)
 }

@@ -1,7 +1,8 @@
 // Decimal text: bytes and the digits that they stand for.
 ghost use Rattle.std.specs.Prelude.{◌≡◌, ◌-◌, ◌≤◌, true, length, if◌then◌else◌, Some, None};
 ghost use Rattle.std.specs.Int.Digits.{number_from_digits};
-ghost use Rattle.decimal.specs.Digits.{is_digit, every, values, spelled, padded};
+ghost use Rattle.std.specs.List.{list_all};
+ghost use Rattle.decimal.specs.Digits.{is_digit, values, spelled, padded};
 
 pub(crate) fn digit_of(byte: u8) -> Option<u8>
     ensures { result ≡ (if is_digit byte then Some (byte - 48) else None) }
@@ -13,14 +14,14 @@ pub(crate) fn digit_of(byte: u8) -> Option<u8>
 }
 
 pub(crate) fn all_digits(text: &[u8]) -> bool
-    ensures { result ≡ every is_digit text.now }
+    ensures { result ≡ list_all is_digit text.now }
 {
     text.iter().all(|byte| byte.is_ascii_digit())
 }
 
 // The number that decimal text spells. Nineteen digits are the most that 64 bits hold whatever they are.
 pub(crate) fn number_of(text: &[u8]) -> u64
-    requires decimal { every is_digit text.now ≡ true }
+    requires decimal { list_all is_digit text.now ≡ true }
     requires short { length text.now ≤ 19 }
     ensures { result ≡ number_from_digits 10 (values text.now) }
 {

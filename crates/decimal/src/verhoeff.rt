@@ -1,6 +1,7 @@
 // The check digit of a row of decimal digits, by Verhoeff's rule.
 ghost use Rattle.std.specs.Prelude.{◌≡◌, ◌<◌, ◌≤◌, ◌++◌, IfSome, if◌then◌else◌, Some, None};
-ghost use Rattle.decimal.specs.Digits.{is_digit, every, values};
+ghost use Rattle.std.specs.List.{list_all};
+ghost use Rattle.decimal.specs.Digits.{is_digit, values};
 ghost use Rattle.decimal.specs.CheckDigits.{product, passes, inverse, running, front, check_digit_after, Checks, DigitBefore};
 
 use crate::text::digit_of;
@@ -60,7 +61,7 @@ fn undone(p: u8) -> u8
 fn closing(place: usize, start: u8, text: &[u8]) -> Option<u8>
     requires front { place ≤ 1 }
     requires digit { start < 10 }
-    ensures { result ≡ (if every is_digit text.now then Some (inverse (running place start (values text.now))) else None) }
+    ensures { result ≡ (if list_all is_digit text.now then Some (inverse (running place start (values text.now))) else None) }
 {
     let mut product = start;
     for (i, byte) in text.iter().enumerate() {

@@ -36,5 +36,5 @@ returns c =
     let g = sym c.if-not-is_grouped.ensures in
     let d = sym c.if-not-all_digits.ensures in
     let s = (was_ok (all_sealed t) CheckDigit tt _ c.in_ok-check_groups.ensures).0 in
-    let v : c.all_of.result ≡ blocks_of t = c.all_of.ensures ∙ sym (rw (g, d, s)) in
+    let v : c.blocks_in.result ≡ blocks_of t = c.blocks_in.ensures ∙ sym (rw (g, d, s)) in
     record { value = v; bounds = bounded t _ v }

@@ -6,7 +6,8 @@ use Rattle.std.proofs.lemmas.Fn.{serves_by, fronts}
 use Rattle.std.proofs.lemmas.Iterator.{YieldsList-from_slice}
 use Rattle.std.proofs.lemmas.Iterator.Consumers.{fold_from_yields_List}
 use Rattle.std.proofs.lemmas.Int.Digits.{number_push}
-use Rattle.decimal.specs.Digits.{is_digit, every, values}
+use Rattle.std.specs.List.{list_all}
+use Rattle.decimal.specs.Digits.{is_digit, values}
 use Rattle.decimal.proofs.Padding.{number_step, folded}
 use Rattle.decimal.proofs.text.number_of.Goals as goal
 
@@ -33,7 +34,7 @@ fold-requires-clause-callable c =
     (λ xs t q x u y e j.
     let pre = map (λ (x : Bor ℕ). x.now) xs in
     let whole : c.args.text.now ≡ pre ++ x.now ∷ u.rest.now = sym c.iter.ensures.rest ∙ given xs c.iter.result t y ∙ ap (λ r. pre ++ r) e in
-    let d : every is_digit (pre ++ x.now ∷ u.rest.now) ≡ true = ap (every is_digit) (sym whole) ∙ c.requires.decimal in
+    let d : list_all is_digit (pre ++ x.now ∷ u.rest.now) ≡ true = ap (list_all is_digit) (sym whole) ∙ c.requires.decimal in
     let s : length (pre ++ x.now ∷ u.rest.now) ≤ 19 = rw (← whole) c.requires.short in
     let n = number_step pre x.now u.rest.now d s in
     let low : 48 ≤ x.now = n.0 in

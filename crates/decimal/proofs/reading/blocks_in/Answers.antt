@@ -8,11 +8,12 @@ use Rattle.refusal.specs.declared.Refusal.TheVariants.{NoBlock}
 use Rattle.refusal.specs.Checks.{provided}
 use Rattle.refusal.proofs.Passing.{was_ok}
 use Rattle.arrayvec.specs.ArrayVec.{ArrayVec}
-use Rattle.decimal.specs.Digits.{is_digit, every, values, up_to}
+use Rattle.std.specs.List.{list_all}
+use Rattle.decimal.specs.Digits.{is_digit, values, up_to}
 use Rattle.decimal.specs.Groups.{lowest, is_block, has_block, block_at, all_blocks, blocks_in}
 use Rattle.decimal.proofs.Bounded.{up_more}
 use Rattle.decimal.proofs.Grouping.{group_is, group_digits_all, block_there, one_unblocked, grouped-fits, blocks_more}
-use Rattle.decimal.proofs.reading.all_of.Goals as goal
+use Rattle.decimal.proofs.reading.blocks_in.Goals as goal
 
 -- what the text of a group comes to
 abbrev block_from : ℕ → List ℕ → Result ℕ Refusal
@@ -24,7 +25,7 @@ pub block_of-requires : goal.block_of-requires
 block_of-requires c =
     let t = c.args.text.now in
     let i = c.loop-i.i in
-    ap (λ (gs : List (List ℕ)). every is_digit (get_or gs i [])) c.as_chunks.ensures.front ∙ ap (every is_digit) (group_is t i (omega arith)) ∙ group_digits_all t i c.requires.decimal
+    ap (λ (gs : List (List ℕ)). list_all is_digit (get_or gs i [])) c.as_chunks.ensures.front ∙ ap (list_all is_digit) (group_is t i (omega arith)) ∙ group_digits_all t i c.requires.decimal
 
 pub returns-in_err-block_of : goal.returns-in_err-block_of
 returns-in_err-block_of c =
