@@ -1,14 +1,14 @@
--- Groups of an entry, over plain values: one group by itself (group_undigit, group_unlast, group_digits) and at its place (group_at),
--- (group_is), what one group says of all (one_unsealed, one_sealed, block_there, one_unblocked), the blocks (block_in, length_blocks,
+-- Groups of an entry, over plain values: one group by itself (group_undigit, group_unlast, group_unsealed, group_sealed) and at its
+-- place (group_is, group_at), what one group says of all (one_unsealed, one_sealed, block_there, one_unblocked), the blocks (block_in, length_blocks,
 -- blocks_more), and what a whole entry comes to (Passes, passed, passing, sound_of).
-use Rattle.std.proofs.Common.{◌≡◌, ℕ, zero, suc, ◌+◌, ◌-◌, ◌*◌, ◌/◌, ◌%◌, ◌^◌, ◌<◌, ◌≤◌, Bool, true, false, cond, ◌&&◌, ◌||◌, eqb, ltb, leb, List, [], ◌∷◌, ◌++◌, map, length, get_or, take, drop, IfOk, Some, None, Ok, Err, Option, Result, sym, refl, ap, ◌∙◌, ⊎_elim, add-one, arith}
+use Rattle.std.proofs.Common.{◌≡◌, ℕ, zero, suc, ◌+◌, ◌-◌, ◌*◌, ◌/◌, ◌%◌, ◌^◌, ◌<◌, ◌≤◌, Bool, true, cond, ◌&&◌, ◌||◌, eqb, ltb, leb, List, [], ◌∷◌, ◌++◌, map, length, get_or, take, drop, IfOk, Some, None, Ok, Err, Option, Result, sym, refl, ap, ◌∙◌, ⊎_elim, add-one, arith}
 use Rattle.std.specs.List.{between, range_with_len}
 use Rattle.std.specs.Simd.{first_chunks}
 use Rattle.std.proofs.lemmas.List.FromFn.{length-map-range_with_len, get_or-map-range_with_len, map-range_with_len_more}
 use Rattle.std.specs.Int.Digits.{number_from_digits, AllBelowBase}
-use Rattle.std.proofs.lemmas.List.{take_all, take_more, take-take, take-map, drop-map, drop-drop, get_or-take, get_or-drop, length-map, length-take, length-drop}
+use Rattle.std.proofs.lemmas.List.{take_all, take_more, take-take, take-map, drop-map, drop-drop, get_or-take, get_or-drop, length-take, length-drop}
 use Rattle.std.proofs.ByRecursion.{All-get_or}
-use Rattle.std.proofs.lemmas.Bool.{le-leb, lt-leb, ltb-true, lt-ltb, le-ltb, eqb-true, and_parts, or_cases, cases_lt, cases_eq}
+use Rattle.std.proofs.lemmas.Bool.{ltb-true, eqb-true, eq-eqb, ne_eqb, and_parts, or_cases}
 use Rattle.refusal.specs.declared.Refusal.{Refusal}
 use Rattle.refusal.specs.declared.Refusal.TheVariants.{Length, NotADigit, CheckDigit, NoBlock}
 use Rattle.refusal.specs.Checks.{provided}
@@ -46,7 +46,7 @@ group_unlast b t e l s n =
     let k = f.0 in
     rw (g, k, h)
 
-pub group_digits : (b : Option ℕ) (t : List ℕ) (e d : ℕ) → length t ≡ 20 → Some e ≡ check_digit_after b (take 19 t) →
+group_digits : (b : Option ℕ) (t : List ℕ) (e d : ℕ) → length t ≡ 20 → Some e ≡ check_digit_after b (take 19 t) →
     Some d ≡ cond (is_digit (get_or t 19 0)) (Some (get_or t 19 0 - 48)) None → checked_group b t ≡ provided (eqb d e) CheckDigit (Ok d)
 unfolding check_digit_after checked_group
 group_digits b t e d l s n =
@@ -58,6 +58,14 @@ group_digits b t e d l s n =
     let k = f.0 in
     let m = h.0 in
     rw (g, k, m, v, w)
+
+pub group_unsealed : (b : Option ℕ) (t : List ℕ) (e d : ℕ) → length t ≡ 20 → Some e ≡ check_digit_after b (take 19 t) →
+    Some d ≡ cond (is_digit (get_or t 19 0)) (Some (get_or t 19 0 - 48)) None → (d ≡ e → ⊥) → Err CheckDigit ≡ checked_group b t
+group_unsealed b t e d l s n h = let f = ne_eqb d e h in sym (group_digits b t e d l s n ∙ ap (λ same. provided same CheckDigit (Ok d)) f)
+
+pub group_sealed : (b : Option ℕ) (t : List ℕ) (e d : ℕ) → length t ≡ 20 → Some e ≡ check_digit_after b (take 19 t) →
+    Some d ≡ cond (is_digit (get_or t 19 0)) (Some (get_or t 19 0 - 48)) None → d ≡ e → Ok d ≡ checked_group b t
+group_sealed b t e d l s n h = let f = eq-eqb d e h in sym (group_digits b t e d l s n ∙ ap (λ same. provided same CheckDigit (Ok d)) f)
 
 -- one group at its place
 values_between : (a b : ℕ) (t : List ℕ) → values (between a b t) ≡ between a b (values t)

@@ -1,9 +1,9 @@
 -- Reading undoes writing (there), and writing undoes reading (back); what a written text is (length_text, text_passes).
-use Rattle.std.proofs.Common.{◌≡◌, ℕ, zero, suc, ◌+◌, ◌-◌, ◌*◌, ◌/◌, ◌^◌, ◌<◌, ◌≤◌, true, ltb, leb, List, [], ◌∷◌, ◌++◌, length, get_or, take, drop, replicate, Some, None, Ok, Option, sym, refl, ap, ◌∙◌, ⊎_elim, append_assoc, add-zero, zero-add, arith}
+use Rattle.std.proofs.Common.{◌≡◌, ℕ, zero, suc, ◌+◌, ◌-◌, ◌*◌, ◌/◌, ◌^◌, ◌<◌, ◌≤◌, true, ltb, leb, List, [], ◌∷◌, ◌++◌, length, get_or, take, drop, Some, None, Ok, Option, sym, refl, ap, ◌∙◌, append_assoc, add-zero, zero-add, arith}
 use Rattle.std.specs.Int.Digits.{number_from_digits, AllBelowBase}
-use Rattle.std.proofs.lemmas.List.{ext_get_or, take_all, take_at, take-take, take_more, drop_at, drop-take, take-append-drop, get_or_at, get_or-take, get_or-drop, get_or_append_left, get_or-append_right, get_or-replicate, length-append, length-map, length-take, length-take-le, length-drop, length-replicate}
+use Rattle.std.proofs.lemmas.List.{ext_get_or, take_all, take_at, take-take, take_more, drop_at, drop-take, take-append-drop, get_or_at, get_or-take, get_or-drop, get_or_append_left, length-append, length-map, length-take, length-drop}
 use Rattle.std.proofs.ByRecursion.{All-append, All-push, All-take, All-drop, All-get_or}
-use Rattle.std.proofs.lemmas.Bool.{leb-true, le-leb, lt-ltb, eq-eqb, eqb-true, and_parts, and_from, cases_lt}
+use Rattle.std.proofs.lemmas.Bool.{leb-true, le-leb, lt-ltb, eq-eqb, eqb-true, and_parts, and_from}
 use Rattle.decimal.specs.Digits.{values, spelled, padded}
 use Rattle.decimal.specs.CheckDigits.{front, check_digit, DigitBefore}
 use Rattle.decimal.specs.Groups.{before, body, sealed_at, number_at, lowest, has_block, block_at, grouped, all_sealed, all_blocks, blocks_in, blocks_of}

@@ -1,6 +1,7 @@
--- Text and the digits that it spells: what holds of every byte (every_at, every_more, every_stops, every_all, every_set, every_take, every_drop), the digits of decimal text (digit_in, under-values, get_or-values), text that digits spell
--- (every-spelled, values-spelled, spelled-values).
-use Rattle.std.proofs.Common.{◌≡◌, ℕ, zero, suc, ◌+◌, ◌-◌, ◌<◌, ◌≤◌, Bool, true, false, ◌&&◌, leb, List, [], ◌∷◌, ◌++◌, length, get_or, take, drop, set, sym, refl, ap, ◌∙◌, arith}
+-- Text and the digits that it spells: what holds of every byte (every_at, every_more, every_stops, every_all, every_set, every_take,
+-- every_drop), the digits of decimal text (digit_in, under-values, get_or-values), text that digits spell (every-spelled,
+-- values-spelled, spelled-values).
+use Rattle.std.proofs.Common.{◌≡◌, ℕ, zero, suc, ◌+◌, ◌-◌, ◌<◌, ◌≤◌, Bool, true, false, ◌&&◌, leb, List, [], ◌∷◌, length, get_or, take, drop, set, sym, refl, ap, ◌∙◌, arith}
 use Rattle.std.specs.Int.Digits.{AllBelowBase}
 use Rattle.std.proofs.lemmas.Bool.{and_parts, and_from, leb-true, le-leb}
 use Rattle.std.proofs.lemmas.List.{at_drop_more, at_drop_all, get_or-map}

@@ -2,7 +2,7 @@
 -- number_at, offset, lowest, is_block, has_block, block_at. The four tests of an entry's text: grouped, all_digits, all_sealed, all_blocks. What it
 -- carries: blocks_in; what it comes to: blocks_of; what is known of blocks that were read: Sound. One group by itself,
 -- with the check digit before it: checked_group.
-use Rattle.std.specs.Prelude.{ℕ, zero, suc, ◌+◌, ◌-◌, ◌*◌, ◌/◌, ◌^◌, ◌≤◌, Bool, ◌&&◌, ◌||◌, List, [], ◌∷◌, ◌++◌, map, length, take, Some, None, Ok, Option, Result, ◌==◌, nat_le, nat_lt, slice_index}
+use Rattle.std.specs.Prelude.{ℕ, zero, suc, ◌+◌, ◌-◌, ◌*◌, ◌/◌, ◌^◌, ◌≤◌, Bool, ◌&&◌, ◌||◌, List, ◌++◌, map, length, take, Some, None, Ok, Option, Result, ◌==◌, nat_le, nat_lt, slice_index}
 use Rattle.std.specs.List.{between, range_with_len}
 use Rattle.std.specs.Int.Digits.{number_from_digits, AllBelowBase}
 use Rattle.refusal.specs.declared.Refusal.{Refusal}

@@ -17,6 +17,7 @@ use refusal::Refusal;
 const OFFSET: u64 = 7394156990786306048;
 
 // Checks the digits and the check digit of one group, given the check digit of the group before it, and answers its own.
+#[tactic(auto, using(crate::proofs::Grouping::group_undigit, crate::proofs::Grouping::group_unlast, crate::proofs::Grouping::group_unsealed, crate::proofs::Grouping::group_sealed))]
 pub(crate) fn check_group(group: &[u8; 20], before: Option<u8>) -> Result<u8, Refusal>
     requires { DigitBefore before }
     ensures { result ≡ checked_group before group.now }
@@ -61,6 +62,7 @@ fn block_of(group: &[u8; 20], i: usize) -> Result<u64, Refusal>
 }
 
 // Every group's block.
+#[tactic(auto, using(crate::proofs::Grouping::group_is, crate::proofs::Grouping::group_digits_all, crate::proofs::Grouping::block_there, crate::proofs::Grouping::blocks_more, crate::proofs::Bounded::up_more), unfolding(crate::specs::Groups::all_blocks, crate::specs::Groups::blocks_in))]
 fn blocks_in(text: &[u8]) -> Result<Blocks, Refusal>
     requires decimal { list_all is_digit text.now ≡ true }
     requires whole { grouped text.now ≡ true }
@@ -82,6 +84,7 @@ fn is_grouped(text: &[u8]) -> bool
 }
 
 // The blocks of an entry. Each check looks at the whole entry before the next begins.
+#[tactic(auto, unfolding(crate::specs::Groups::blocks_of, crate::specs::Groups::all_digits))]
 pub fn read_blocks(text: &[u8]) -> Result<Blocks, Refusal>
     ensures value { result ≡ blocks_of text.now }
     ensures bounds { IfOk result (λ blocks. Sound blocks.items) }

@@ -32,6 +32,7 @@ const POWERS: [[u8; 10]; 8] = [
     [7, 0, 4, 6, 9, 1, 3, 2, 5, 8],
 ];
 
+#[tactic(auto, using(crate::proofs::Tables::product_at))]
 fn times(a: u8, b: u8) -> u8
     requires left { a < 10 }
     requires right { b < 10 }
@@ -41,6 +42,7 @@ fn times(a: u8, b: u8) -> u8
     PRODUCT[a as usize][b as usize]
 }
 
+#[tactic(auto, using(crate::proofs::Tables::power_at))]
 fn passed(place: usize, digit: u8) -> u8
     requires { digit < 10 }
     ensures value { result ≡ passes place digit }
@@ -58,6 +60,7 @@ fn undone(p: u8) -> u8
 }
 
 // Runs text on from `place`, where the product so far is `start`, and answers the digit that closes the row.
+#[tactic(auto, using(crate::proofs::Spelling::every_more, crate::proofs::Rows::running_more, crate::proofs::Rows::running_all, crate::proofs::Rows::row_ends, crate::proofs::Verdicts::was_some))]
 fn closing(place: usize, start: u8, text: &[u8]) -> Option<u8>
     requires front { place ≤ 1 }
     requires digit { start < 10 }
@@ -72,6 +75,7 @@ fn closing(place: usize, start: u8, text: &[u8]) -> Option<u8>
 }
 
 // The check digit of a row of text with the digit `before`, where there is one, set in front of it.
+#[tactic(auto, using(crate::proofs::Rows::row_checks), unfolding(crate::specs::CheckDigits::check_digit_after, crate::specs::CheckDigits::check_digit, crate::specs::CheckDigits::whole, crate::specs::CheckDigits::running))]
 pub(crate) fn check_digit_after(before: Option<u8>, text: &[u8]) -> Option<u8>
     requires { DigitBefore before }
     ensures value { result ≡ check_digit_after before text.now }

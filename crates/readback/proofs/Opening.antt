@@ -1,6 +1,6 @@
 -- What a slip that was printed is read as. Its text: keyed, digits; its shape: Shape, shape; the slip in clear: first_back, sold_slip,
 -- slip_read_lem; its further blocks and its data parts: further_read, parts-read.
-use Rattle.std.proofs.Common.{◌≡◌, ℕ, suc, ◌-◌, ◌*◌, ◌%◌, ◌^◌, true, List, ◌∷◌, map, length, get_or, take, Ok, sym, refl, ap, ◌∙◌, subst, div-one, arith}
+use Rattle.std.proofs.Common.{◌≡◌, ℕ, suc, ◌*◌, ◌%◌, ◌^◌, true, List, ◌∷◌, map, length, get_or, take, Ok, sym, refl, ap, ◌∙◌, subst, div-one, arith}
 use Rattle.std.proofs.lemmas.List.{take_at}
 use Rattle.refusal.proofs.Passing.{provided_ok}
 use Rattle.refusal.specs.declared.Refusal.TheVariants.{OtherSubClass, WrongBlocks}

@@ -13,7 +13,6 @@ use Rattle.token.specs.declared.subclass.SubClass.{SubClass}
 use Rattle.token.specs.declared.subclass.SubClass.TheVariants.{Clear, Enciphered, Rates}
 use Rattle.token.specs.FurtherBlocks.{carriable, numbered}
 use Rattle.token.specs.Limits.{under}
-use Rattle.token.proofs.Numbered.{length-numbered}
 use Rattle.sealing.specs.Suites.{Suite, Sound}
 use Rattle.sealing.specs.Opening.{through_block, through_all, through_low}
 

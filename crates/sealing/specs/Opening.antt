@@ -1,7 +1,6 @@
 -- The cipher over the blocks of a slip, one way for till and meter: through_block, through_all, through_low; and the slip that blocks
 -- hold: further_of, parts_of, opened_as, opened.
 use Rattle.std.specs.Prelude.{ℕ, ◌+◌, ◌*◌, ◌/◌, ◌%◌, ◌^◌, List, [], ◌∷◌, map, drop, Ok, Result, slice_index}
-use Rattle.arrayvec.specs.ArrayVec.{ArrayVec}
 use Rattle.refusal.specs.Checks.{and_then}
 use Rattle.refusal.specs.declared.Refusal.{Refusal}
 use Rattle.cipher.specs.Widths.{bits}
