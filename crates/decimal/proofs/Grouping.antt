@@ -6,7 +6,7 @@ use Rattle.std.specs.List.{between, range_with_len}
 use Rattle.std.specs.Simd.{first_chunks}
 use Rattle.std.proofs.lemmas.List.FromFn.{length-map-range_with_len, get_or-map-range_with_len, map-range_with_len_more}
 use Rattle.std.specs.Int.Digits.{number_from_digits, AllBelowBase}
-use Rattle.std.proofs.lemmas.List.{take_all, take_more, take-take, take-map, drop-map, drop-drop, get_or-take, get_or-drop, length-take, length-drop}
+use Rattle.std.proofs.lemmas.List.{take_all, take_more, take-take, take-map, drop-map, drop-drop, get_or-take, get_or-drop}
 use Rattle.std.proofs.ByRecursion.{All-get_or}
 use Rattle.std.proofs.lemmas.Bool.{ltb-true, eqb-true, eq-eqb, ne_eqb, and_parts, or_cases}
 use Rattle.refusal.specs.declared.Refusal.{Refusal}
@@ -74,9 +74,6 @@ values_between a b t = sym (take-map (λ byte. byte - 48) (b - a) (drop a t)) �
 pub before_digit : (ds : List ℕ) (i : ℕ) → AllBelowBase 10 ds → 20 * i ≤ length ds → DigitBefore (before ds i)
 before_digit ds zero u h = tt
 before_digit ds (suc i) u h = All-get_or (λ d. d < 10) ds (20 * i + 19) 0 (omega arith) u
-
-pub length_group : (t : List ℕ) (i : ℕ) → 20 * i + 20 ≤ length t → length (between (20 * i) (20 * i + 20) t) ≡ 20
-length_group t i h = simp (length-take, length-drop) (omega arith)
 
 -- the chunks of twenty are the groups
 chunk_at : (k : ℕ) (xs : List ℕ) (i : ℕ) → i < k → get_or (first_chunks 20 k xs) i [] ≡ take 20 (drop (20 * i) xs)

@@ -17,7 +17,7 @@ use refusal::Refusal;
 const OFFSET: u64 = 7394156990786306048;
 
 // Checks the digits and the check digit of one group, given the check digit of the group before it, and answers its own.
-#[tactic(auto, using(crate::proofs::Grouping::group_undigit, crate::proofs::Grouping::group_unlast, crate::proofs::Grouping::group_unsealed, crate::proofs::Grouping::group_sealed))]
+#[tactic(auto, using(crate::proofs::Grouping::group_undigit, crate::proofs::Grouping::group_unlast, crate::proofs::Grouping::group_sealed))]
 pub(crate) fn check_group(group: &[u8; 20], before: Option<u8>) -> Result<u8, Refusal>
     requires { DigitBefore before }
     ensures { result ≡ checked_group before group.now }

@@ -30,6 +30,7 @@ pub(crate) fn number_of(text: &[u8]) -> u64
 }
 
 // The last digits of `n`, as many as `out` has room for.
+#[tactic(auto, using(crate::proofs::Padding::spelled_back), unfolding(crate::specs::Digits::padded))]
 pub(crate) fn write_digits(n: u64, out: &mut [u8])
     ensures { out.new ≡ spelled (padded 10 (length out.old) n) }
 {

@@ -1,4 +1,3 @@
-pub mod Selling
 pub mod Sealed
 pub mod Filling
 pub mod Printed

@@ -74,6 +74,7 @@ fn is_coded(settings: &Settings, sale: &Sale) -> bool
 }
 
 // The sale made ready, if it can be sold.
+#[tactic(auto, unfolding(crate::specs::Sales::salable))]
 pub(crate) fn ready_for(settings: &Settings, sale: &Sale) -> Option<Ready>
     ensures { result ≡ (if salable settings.now sale.now then Some (readied sale.now) else None) }
 {

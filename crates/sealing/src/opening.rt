@@ -50,6 +50,7 @@ impl Opened {
 }
 
 // The slip that blocks hold, or why they hold none.
+#[tactic(auto, using(crate::proofs::Walk::refilled), unfolding(crate::specs::Opening::opened))]
 pub fn open_blocks<C: Cipher>(cipher: &C, blocks: &[u64]) -> Result<Opened, Refusal>
     ensures value { result ≡ opened (C.deciphered cipher.now) blocks.now }
 {

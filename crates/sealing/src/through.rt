@@ -42,6 +42,7 @@ fn block_through<C: Cipher>(cipher: &C, way: Way, width: Width, block: u64) -> u
     ((block >> bits) << bits) + turned(cipher, way, width, block)
 }
 
+#[tactic(auto, using(crate::proofs::Walk::walked_more))]
 fn further_through<C: Cipher>(cipher: &C, way: Way, blocks: &mut [u64])
     ensures { blocks.new ≡ map (through_block (map_by way (C.enciphered cipher.now) (C.deciphered cipher.now)) Further) blocks.old }
 {
