@@ -50,6 +50,12 @@ pub(crate) fn lowest_number(i: usize) -> u64
     if i == 0 { OFFSET } else { 0 }
 }
 
+pub(crate) fn is_block(n: &u64) -> bool
+    ensures { result ≡ is_block n.now }
+{
+    *n < 1 << 61
+}
+
 // The block of one group, by its place.
 fn block_of(group: &[u8; 20], i: usize) -> Result<u64, Refusal>
     requires { list_all is_digit group.now ≡ true }
@@ -57,7 +63,7 @@ fn block_of(group: &[u8; 20], i: usize) -> Result<u64, Refusal>
 {
     number_of(&group[0..19])
         .checked_sub(lowest_number(i))
-        .filter(|block| *block < 1 << 61)
+        .filter(is_block)
         .ok_or(Refusal::NoBlock)
 }
 

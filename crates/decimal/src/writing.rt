@@ -6,7 +6,7 @@ ghost use Rattle.decimal.specs.CheckDigits.{DigitBefore};
 ghost use Rattle.decimal.specs.Groups.{is_block};
 ghost use Rattle.decimal.specs.Slips.{seal_of, group_of, writable, slip_of};
 
-use crate::reading::lowest_number;
+use crate::reading::{is_block, lowest_number};
 use crate::text::write_digits;
 use crate::verhoeff::check_digit_after;
 
@@ -27,7 +27,7 @@ fn write_group(number: u64, before: Option<u8>, group: &mut [u8]) -> u8
 fn all_below(blocks: &[u64]) -> bool
     ensures { result ≡ list_all is_block blocks.now }
 {
-    blocks.iter().all(|block| *block < 1 << 61)
+    blocks.iter().all(is_block)
 }
 
 #[tactic(auto, unfolding(crate::specs::Slips::writable))]

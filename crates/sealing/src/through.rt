@@ -9,7 +9,8 @@ use cipher::Cipher;
 use cipher::width::Width;
 use token::subclass::SubClass;
 
-// Which of its two maps a cipher is asked for. A closure in its place would make its caller show that it may be called.
+// Which of its two maps a cipher is asked for. With a closure in its place, `low_through` would have to require that it may be
+// called, and public functions here require nothing.
 #[derive(Clone, Copy)]
 pub enum Way {
     Encipher,
