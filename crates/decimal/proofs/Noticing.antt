@@ -6,7 +6,8 @@ use Rattle.std.proofs.lemmas.List.{get_or-set_same, get_or-set_other, get_or-tak
 use Rattle.std.proofs.ByRecursion.{All-append, All-take, All-drop, All-get_or}
 use Rattle.std.proofs.lemmas.Bool.{cases_Bool, cases_eq}
 use Rattle.refusal.specs.declared.Refusal.TheVariants.{CheckDigit}
-use Rattle.decimal.specs.Digits.{is_digit, every, values}
+use Rattle.std.specs.List.{list_all}
+use Rattle.decimal.specs.Digits.{is_digit, values}
 use Rattle.decimal.specs.CheckDigits.{front, check_digit}
 use Rattle.decimal.specs.Groups.{before, body, sealed_at, grouped, all_digits, all_sealed, blocks_of}
 use Rattle.decimal.specs.Laws.{NoticesWrongDigit, NoticesSwap, swapped}
@@ -17,7 +18,7 @@ use Rattle.decimal.proofs.Grouping.{before_digit, grouped-fits}
 use Rattle.decimal.proofs.Returning.{last_is}
 
 -- an entry with one broken seal is refused for it
-broken : (t : List ℕ) (i : ℕ) → grouped t ≡ true → every is_digit t ≡ true → i < length t / 20 → (sealed_at (values t) i ≡ true → ⊥) → blocks_of t ≡ Err CheckDigit
+broken : (t : List ℕ) (i : ℕ) → grouped t ≡ true → list_all is_digit t ≡ true → i < length t / 20 → (sealed_at (values t) i ≡ true → ⊥) → blocks_of t ≡ Err CheckDigit
 unfolding blocks_of all_digits all_sealed
 broken t i g d h no-seal =
     let f : sealed_at (values t) i ≡ false = ⊎_elim (λ e. absurd (no-seal e)) (λ e. e) (cases_Bool (sealed_at (values t) i)) in

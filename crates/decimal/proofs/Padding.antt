@@ -1,14 +1,18 @@
--- Reading and writing digits undo one another, for any base and any length (there, back), one digit more read (number_step) and
+-- Reading and writing digits undo one another, for any base and any length (there, back), one digit more read (number_step, folded) and
 -- written (spelled_back), what written digits are (under-padded, length-padded).
-use Rattle.std.proofs.Common.{◌≡◌, ℕ, zero, suc, ◌+◌, ◌-◌, ◌*◌, ◌/◌, ◌%◌, ◌^◌, ◌<◌, ◌≤◌, true, List, [], ◌∷◌, ◌++◌, length, get_or, take, drop, set, sym, refl, ap, ◌∙◌, append_assoc, pow-suc, add-one, arith, length-take}
+use Rattle.std.proofs.Common.{◌≡◌, ℕ, zero, suc, ◌+◌, ◌-◌, ◌*◌, ◌/◌, ◌%◌, ◌^◌, ◌<◌, ◌≤◌, true, List, [], ◌∷◌, ◌++◌, length, get_or, take, drop, set, sym, refl, ap, ◌∙◌, append_assoc, pow-suc, add-one, arith}
 use native.Mathlib.Nat.{pow-zero, pow-le-pow_right}
-use Rattle.std.specs.Int.Digits.{number_from_digits, AllBelowBase}
+use Rattle.std.specs.Int.Digits.{number_from_digits, number_from_digits_after, AllBelowBase}
+use Rattle.std.specs.List.{fold}
+use Rattle.std.proofs.lemmas.Bool.{and_parts}
 use Rattle.std.proofs.lemmas.Int.Digits.{number_push, number_more, number_lt}
-use Rattle.std.proofs.ByRecursion.{All-get_or, All-take, All-push}
-use Rattle.std.proofs.lemmas.List.{take_more, take_all, drop-set, length_push, length-map, map_push}
+use Rattle.std.proofs.ByRecursion.{All-get_or, All-push}
+use Rattle.std.proofs.lemmas.List.{take_more, take_all, drop-set, length_push, length-map, length-append, map_push}
 use Rattle.std.proofs.lemmas.Nat.{div-add-mod', div-mul-add, mod-mul-add, div_below, mod_below}
-use Rattle.decimal.specs.Digits.{is_digit, every, values, spelled, padded}
-use Rattle.decimal.proofs.Spelling.{every_at, digit_in, under-values, get_or-values}
+use Rattle.std.proofs.lemmas.List.Folds.{list_all-append}
+use Rattle.std.specs.List.{list_all}
+use Rattle.decimal.specs.Digits.{is_digit, values, spelled, padded}
+use Rattle.decimal.proofs.Spelling.{digit_in, under-values}
 
 pub there : (b : ℕ) → 0 < b → (k n : ℕ) → n < b ^ k → number_from_digits b (padded b k n) ≡ n
 unfolding padded
@@ -31,15 +35,6 @@ front b xs u (suc k) h =
 
 pub back : (b : ℕ) (ds : List ℕ) → AllBelowBase b ds → padded b (length ds) (number_from_digits b ds) ≡ ds
 back b ds u = let l : length ds ≤ length ds = omega arith in let w = front b ds u (length ds) l in rw take_all at w
-
--- one digit more still fits
-pub more_fits : (xs : List ℕ) (i : ℕ) → AllBelowBase 10 xs → length xs ≤ 19 → i < length xs → number_from_digits 10 (take i xs) * 10 + get_or xs i 0 < 10 ^ 19
-more_fits xs i u s l =
-    let e = number_more 10 xs i l in
-    let b = number_lt 10 (take (i + 1) xs) (All-take (λ d. d < 10) (i + 1) xs u) in
-    let k : length (take (i + 1) xs) ≤ 19 = simp length-take (omega arith) in
-    let m : 10 ^ length (take (i + 1) xs) ≤ 10 ^ 19 = pow-le-pow_right (omega arith) k in
-    omega (arith, e, b, m)
 
 -- a digit spelled at a place joins those behind it
 spelled_more : (b m i : ℕ) (out : List ℕ) → i < length out → spelled (padded b i (m / b)) ++ drop i (set out i (m % b + 48)) ≡ spelled (padded b (i + 1) m) ++ drop (i + 1) out
@@ -66,14 +61,20 @@ unfolding padded
 length-padded b zero n = refl
 length-padded b (suc k) n = length_push (padded b k (n / b)) (n % b) ∙ ap (λ m. m + 1) (length-padded b k (n / b)) ∙ add-one k
 
--- one byte more is a digit, and the number with it fits and is that of one digit more
-pub number_step : (t : List ℕ) (i n : ℕ) → every is_digit t ≡ true → length t ≤ 19 → i < length t → n ≡ number_from_digits 10 (take i (values t)) →
-    (48 ≤ get_or t i 0) × (n * 10 + (get_or t i 0 - 48) < 10 ^ 19) × (n * 10 + (get_or t i 0 - 48) ≡ number_from_digits 10 (take (i + 1) (values t)))
-number_step t i n e s h v =
-    let l : length (values t) ≡ length t = length-map t (λ b. b - 48) in
-    let k : i < length (values t) = omega arith in
-    let d = digit_in (get_or t i 0) (every_at is_digit t i e h) in
-    let g = get_or-values t i h in
-    let f = more_fits (values t) i (under-values t e) (omega arith) k in
-    let m = number_more 10 (values t) i k in
-    (d.0, omega (arith, f, v, g), omega (arith, m, v, g))
+-- a byte behind others of decimal text is a digit, and the number with it fits
+pub number_step : (pre : List ℕ) (x : ℕ) (post : List ℕ) → list_all is_digit (pre ++ x ∷ post) ≡ true → length (pre ++ x ∷ post) ≤ 19 →
+    (48 ≤ x) × (number_from_digits 10 (values pre) * 10 + (x - 48) < 10 ^ 19)
+number_step pre x post e s =
+    let p = and_parts (list_all is_digit pre) (list_all is_digit (x ∷ post)) (sym (list_all-append is_digit pre (x ∷ post)) ∙ e) in
+    let q = and_parts (is_digit x) (list_all is_digit post) p.1 in
+    let d = digit_in x q.0 in
+    let ds = values pre ++ (x - 48) ∷ [] in
+    let b = number_lt 10 ds (All-push (λ d. d < 10) (values pre) (x - 48) (under-values pre p.0) (omega arith)) in
+    let l : length ds ≤ 19 = simp (length_push, length-map) (let k = simp length-append at s in omega arith) in
+    let m : 10 ^ length ds ≤ 10 ^ 19 = pow-le-pow_right (omega arith) l in
+    (d.0, omega (arith, number_push 10 (values pre) (x - 48), b, m))
+
+-- what a fold over bytes adds up to is the number of their digits
+pub folded : (n : ℕ) (t : List ℕ) → fold (λ n x. n * 10 + (x - 48)) n t ≡ number_from_digits_after 10 n (values t)
+folded n [] = refl
+folded n (x ∷ t) = folded (n * 10 + (x - 48)) t

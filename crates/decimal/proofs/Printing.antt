@@ -7,7 +7,8 @@ use Rattle.std.specs.Int.Digits.{AllBelowBase}
 use Rattle.std.proofs.lemmas.List.{append-nil, map-append, map_push, set_at, drop-drop, drop-replicate, take_at, take-append-drop, at_drop_more, at_drop_all, length-append, length-take-le, length-drop, length-map, length_push}
 use Rattle.std.proofs.lemmas.Slice.{take-put_mid, drop-put_mid}
 use Rattle.std.proofs.lemmas.Bool.{and_parts, and_from, leb-true, le-leb, lt-ltb}
-use Rattle.decimal.specs.Digits.{every, spelled, padded}
+use Rattle.std.specs.List.{list_all}
+use Rattle.decimal.specs.Digits.{spelled, padded}
 use Rattle.decimal.specs.CheckDigits.{front, check_digit_after, DigitBefore}
 use Rattle.decimal.specs.Groups.{offset, lowest, is_block}
 use Rattle.decimal.specs.Slips.{seal_of, group_of, groups_after, numbers_of, text_of, writable, slip_of}
@@ -16,21 +17,21 @@ use Rattle.decimal.proofs.Padding.{under-padded, length-padded}
 use Rattle.decimal.proofs.Rows.{front-under}
 use Rattle.decimal.proofs.Spelling.{every-spelled, values-spelled}
 
-pub writable-parts : (bs : List ℕ) → writable bs ≡ true → (1 ≤ length bs) × (length bs ≤ 4) × (every is_block bs ≡ true)
+pub writable-parts : (bs : List ℕ) → writable bs ≡ true → (1 ≤ length bs) × (length bs ≤ 4) × (list_all is_block bs ≡ true)
 unfolding writable
 writable-parts bs e =
-    let p = and_parts (leb 1 (length bs) && leb (length bs) 4) (every is_block bs) e in
+    let p = and_parts (leb 1 (length bs) && leb (length bs) 4) (list_all is_block bs) e in
     let q = and_parts (leb 1 (length bs)) (leb (length bs) 4) p.0 in
     (leb-true 1 (length bs) q.0, leb-true (length bs) 4 q.1, p.1)
 
-every_block : (bs : List ℕ) → AllBelowBase (2 ^ 61) bs → every is_block bs ≡ true
+every_block : (bs : List ℕ) → AllBelowBase (2 ^ 61) bs → list_all is_block bs ≡ true
 every_block [] u = refl
-every_block (b ∷ bs) u = and_from (is_block b) (every is_block bs) (lt-ltb b (2 ^ 61) u.0) (every_block bs u.1)
+every_block (b ∷ bs) u = and_from (is_block b) (list_all is_block bs) (lt-ltb b (2 ^ 61) u.0) (every_block bs u.1)
 
 pub writable_from : (bs : List ℕ) → 1 ≤ length bs → length bs ≤ 4 → AllBelowBase (2 ^ 61) bs → writable bs ≡ true
 unfolding writable
 writable_from bs s m u =
-    and_from (leb 1 (length bs) && leb (length bs) 4) (every is_block bs)
+    and_from (leb 1 (length bs) && leb (length bs) 4) (list_all is_block bs)
     (and_from (leb 1 (length bs)) (leb (length bs) 4) (le-leb 1 (length bs) s) (le-leb (length bs) 4 m)) (every_block bs u)
 
 -- one group

@@ -1,19 +1,19 @@
 -- Reading undoes writing (there), and writing undoes reading (back); what a written text is (length_text, text_passes).
-use Rattle.std.proofs.Common.{◌≡◌, ℕ, zero, suc, ◌+◌, ◌-◌, ◌*◌, ◌/◌, ◌^◌, ◌<◌, ◌≤◌, true, ltb, leb, List, [], ◌∷◌, ◌++◌, length, get_or, take, drop, replicate, Some, None, Ok, Option, sym, refl, ap, ◌∙◌, ⊎_elim, append_assoc, add-zero, zero-add, arith}
+use Rattle.std.proofs.Common.{◌≡◌, ℕ, zero, suc, ◌+◌, ◌-◌, ◌*◌, ◌/◌, ◌^◌, ◌<◌, ◌≤◌, true, ltb, leb, List, [], ◌∷◌, ◌++◌, length, get_or, take, drop, Some, None, Ok, Option, sym, refl, ap, ◌∙◌, append_assoc, add-zero, zero-add, arith}
 use Rattle.std.specs.Int.Digits.{number_from_digits, AllBelowBase}
-use Rattle.std.proofs.lemmas.List.{ext_get_or, take_all, take_at, take-take, take_more, drop_at, drop-take, take-append-drop, get_or_at, get_or-take, get_or-drop, get_or_append_left, get_or-append_right, get_or-replicate, length-append, length-map, length-take, length-take-le, length-drop, length-replicate}
+use Rattle.std.proofs.lemmas.List.{ext_get_or, take_all, take_at, take-take, take_more, drop_at, drop-take, take-append-drop, get_or_at, get_or-take, get_or-drop, get_or_append_left, length-append, length-map, length-take, length-drop}
 use Rattle.std.proofs.ByRecursion.{All-append, All-push, All-take, All-drop, All-get_or}
-use Rattle.std.proofs.lemmas.Bool.{leb-true, le-leb, lt-ltb, eq-eqb, eqb-true, and_parts, and_from, cases_lt}
-use Rattle.decimal.specs.declared.blocks.Blocks.{Blocks}
+use Rattle.std.proofs.lemmas.Bool.{leb-true, le-leb, lt-ltb, eq-eqb, eqb-true, and_parts, and_from}
 use Rattle.decimal.specs.Digits.{values, spelled, padded}
 use Rattle.decimal.specs.CheckDigits.{front, check_digit, DigitBefore}
-use Rattle.decimal.specs.Groups.{before, body, sealed_at, number_at, lowest, has_block, block_at, grouped, all_sealed, all_blocks, words_in, blocks_of}
+use Rattle.decimal.specs.Groups.{before, body, sealed_at, number_at, lowest, has_block, block_at, grouped, all_sealed, all_blocks, blocks_in, blocks_of}
+use Rattle.arrayvec.specs.ArrayVec.{ArrayVec}
 use Rattle.decimal.specs.Slips.{seal_of, group_of, groups_after, numbers_of, text_of}
 use Rattle.decimal.proofs.Bounded.{up_from, up_at}
 use Rattle.decimal.proofs.Padding.{there as padded_there, back as padded_back, under-padded, length-padded}
 use Rattle.decimal.proofs.Spelling.{under-values, every-spelled, values-spelled, spelled-values}
 use Rattle.decimal.proofs.Printing.{seal_lt, length-group_of, lowest_le, length_numbers, number_at_lem}
-use Rattle.decimal.proofs.Grouping.{word_at, length_words, past_groups, grouped-fits, sound, Passes, passed, passing}
+use Rattle.decimal.proofs.Grouping.{length_blocks, block_in, grouped-fits, sound, Passes, passed, passing}
 
 -- groups one after the other
 length_groups : (b : Option ℕ) (ns : List ℕ) → length (groups_after b ns) ≡ 20 * length ns
@@ -131,37 +131,26 @@ text_passes bs s m u =
       blocks = rw (v, n) (up_from (has_block ds) (length bs) (λ i h. (has_block_lem ds i (get_or bs i 0) (w.numbers i h) (All-get_or (λ b. b < 2 ^ 61) bs i 0 h u)).0));
     }
 
-text_words : (bs : List ℕ) → 1 ≤ length bs → length bs ≤ 4 → AllBelowBase (2 ^ 61) bs → words_in (text_of bs) ≡ bs ++ replicate (4 - length bs) 0
+text_blocks : (bs : List ℕ) → AllBelowBase (2 ^ 61) bs → blocks_in (text_of bs) ≡ bs
 unfolding text_of
-text_words bs s m u =
+text_blocks bs u =
     let w = written bs u in
     let ds = groups_after None (numbers_of bs) in
     let t = spelled ds in
     let v : values t ≡ ds = values-spelled ds in
     let l : length t ≡ 20 * length bs = length-map ds (λ d. d + 48) ∙ w.long in
-    let long : length (bs ++ replicate (4 - length bs) 0) ≡ 4 = length-append bs (replicate (4 - length bs) 0) ∙ ap (λ k. length bs + k) (length-replicate (4 - length bs) 0) ∙ omega arith in
-    ext_get_or 0 (words_in t) (bs ++ replicate (4 - length bs) 0) (length_words t ∙ sym long) (λ k h.
-    let k4 : k < 4 = rw length_words at h in
-    word_at t k k4 ∙ ⊎_elim
-    (λ (q : k < length bs).
-    ap (λ xs. block_at xs k) v ∙ (has_block_lem ds k (get_or bs k 0) (w.numbers k q) (All-get_or (λ b. b < 2 ^ 61) bs k 0 q u)).1
-    ∙ sym (get_or_append_left bs (replicate (4 - length bs) 0) 0 k q))
-    (λ (q : length bs ≤ k).
-    past_groups t k (omega (arith, l)) (omega (arith, l)) (omega (arith, l))
-    ∙ sym (get_or-append_right bs (replicate (4 - length bs) 0) (length bs) k 0 refl q ∙ get_or-replicate (4 - length bs) (k - length bs) 0 0 (omega arith)))
-    (cases_lt k (length bs)))
+    let long : length (blocks_in t) ≡ length bs = omega (arith, length_blocks t, l) in
+    ext_get_or 0 (blocks_in t) bs long (λ k h.
+    let q : k < length bs = omega (arith, long) in
+    block_in t k (omega (arith, l)) ∙ ap (λ xs. block_at xs k) v
+    ∙ (has_block_lem ds k (get_or bs k 0) (w.numbers k q) (All-get_or (λ b. b < 2 ^ 61) bs k 0 q u)).1)
 
 pub length_text : (bs : List ℕ) → AllBelowBase (2 ^ 61) bs → length (text_of bs) ≡ 20 * length bs
 unfolding text_of
 length_text bs u = length-map (groups_after None (numbers_of bs)) (λ d. d + 48) ∙ (written bs u).long
 
-pub there : (bs : List ℕ) → 1 ≤ length bs → length bs ≤ 4 → AllBelowBase (2 ^ 61) bs →
-    blocks_of (text_of bs) ≡ Ok (record { groups = length bs; words = bs ++ replicate (4 - length bs) 0 })
-there bs s m u =
-    let l = length_text bs u in
-    let n : length (text_of bs) / 20 ≡ length bs = omega (arith, l) in
-    let w = text_words bs s m u in
-    passing (text_of bs) (text_passes bs s m u) ∙ (λ i. Ok (record { groups = n i; words = w i }))
+pub there : (bs : List ℕ) → 1 ≤ length bs → length bs ≤ 4 → AllBelowBase (2 ^ 61) bs → blocks_of (text_of bs) ≡ Ok (record { items = bs })
+there bs s m u = passing (text_of bs) (text_passes bs s m u) ∙ ap (λ bs. Ok (record { items = bs })) (text_blocks bs u)
 
 -- one group more of a row of digits
 take_group : (ds : List ℕ) (k : ℕ) → 20 * k + 20 ≤ length ds → take (20 * suc k) ds ≡ take (20 * k) ds ++ (body ds k ++ (get_or ds (20 * k + 19) 0 ∷ []))
@@ -213,16 +202,16 @@ number_back ds i e =
     let l = leb-true (lowest i) (number_at ds i) (and_parts (leb (lowest i) (number_at ds i)) (ltb (number_at ds i - lowest i) (2 ^ 61)) e).0 in
     omega (arith, l)
 
-pub back : (t : List ℕ) (b : Blocks) → blocks_of t ≡ Ok b → t ≡ text_of (take b.groups b.words)
+pub back : (t bs : List ℕ) → blocks_of t ≡ Ok (record { items = bs }) → t ≡ text_of bs
 unfolding text_of all_sealed all_blocks
-back t b r =
-    let p = passed t b r in
+back t bs r =
+    let p = passed t (record { items = bs }) r in
     let f = grouped-fits t p.0.in_groups in
     let n = length t / 20 in
-    let bs = take n (words_in t) in
+    let are : bs ≡ blocks_in t = ap (λ (v : ArrayVec ℕ). v.items) p.1 in
     let lt : length t ≡ 20 * n = omega (arith, f.0) in
-    let lb : length bs ≡ n = length-take-le n (words_in t) (rw (length_words t) (omega (arith, f.2))) in
-    let w = written bs (All-take (λ b. b < 2 ^ 61) n (words_in t) (sound t p.0.in_groups p.0.blocks).below) in
+    let lb : length bs ≡ n = ap length are ∙ length_blocks t in
+    let w = written bs (rw are (sound t p.0.in_groups p.0.blocks).below) in
     let ds = values t in
     let es = groups_after None (numbers_of bs) in
     let ld : length ds ≡ 20 * n = length-map t (λ b. b - 48) ∙ lt in
@@ -230,7 +219,6 @@ back t b r =
     let same : take (20 * n) ds ≡ take (20 * n) es = alike n ds es (under-values t p.0.digits) w.under ld le
     (up_at (sealed_at ds) n p.0.seals) (λ i h. w.seals i (omega (arith, lb)))
     (λ i h. number_back ds i (up_at (has_block ds) n p.0.blocks i h)
-    ∙ ap (λ x. lowest i + x) (sym (get_or-take n (words_in t) i 0 h ∙ word_at t i (omega (arith, f.2)))) ∙ sym (w.numbers i (omega (arith, lb)))) n (omega arith) in
+    ∙ ap (λ x. lowest i + x) (sym (ap (λ xs. get_or xs i 0) are ∙ block_in t i h)) ∙ sym (w.numbers i (omega (arith, lb)))) n (omega arith) in
     let digits : ds ≡ es = sym (take_all (20 * n) ds (omega arith)) ∙ same ∙ take_all (20 * n) es (omega arith) in
-    let whole = p.1 in
-    rw whole (sym (spelled-values t p.0.digits) ∙ ap spelled digits)
+    sym (spelled-values t p.0.digits) ∙ ap spelled digits

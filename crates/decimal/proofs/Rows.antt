@@ -3,7 +3,8 @@
 use Rattle.std.proofs.Common.{◌≡◌, ℕ, suc, ◌+◌, ◌-◌, ◌<◌, ◌≤◌, true, false, cond, List, ◌++◌, length, get_or, drop, IfSome, Some, None, Option, sym, refl, ap, ◌∙◌, arith, lit<}
 use Rattle.std.proofs.lemmas.List.{at_drop_more, at_drop_all}
 use Rattle.std.specs.Int.Digits.{AllBelowBase}
-use Rattle.decimal.specs.Digits.{is_digit, every, values}
+use Rattle.std.specs.List.{list_all}
+use Rattle.decimal.specs.Digits.{is_digit, values}
 use Rattle.decimal.specs.CheckDigits.{product, passes, running, whole, inverse, check_digit, front, check_digit_after, Checks, DigitBefore}
 use Rattle.decimal.proofs.Spelling.{every_stops, every_all, under-values}
 use Rattle.decimal.proofs.Tables.{checks}
@@ -23,13 +24,13 @@ unfolding running
 running_all t i place p h = at_drop_all (λ t. running place p (values t)) t i h
 
 -- the row ends at a byte that is no digit, goes on past one that is, and closes
-pub row_stops : (t : List ℕ) (i m : ℕ) → i < length t → is_digit (get_or t i 0) ≡ false → every is_digit (drop i t) ≡ every is_digit t →
-    None ≡ cond (every is_digit t) (Some m) None
-row_stops t i m h e k = let f : every is_digit t ≡ false = sym k ∙ every_stops is_digit t i h e in rw f
+pub row_stops : (t : List ℕ) (i m : ℕ) → i < length t → is_digit (get_or t i 0) ≡ false → list_all is_digit (drop i t) ≡ list_all is_digit t →
+    None ≡ cond (list_all is_digit t) (Some m) None
+row_stops t i m h e k = let f : list_all is_digit t ≡ false = sym k ∙ every_stops is_digit t i h e in rw f
 
-pub row_ends : (t : List ℕ) (i m n : ℕ) → length t ≤ i → m ≡ n → every is_digit (drop i t) ≡ every is_digit t →
-    Some m ≡ cond (every is_digit t) (Some n) None
-row_ends t i m n h e k = let f : every is_digit t ≡ true = sym k ∙ every_all is_digit t i h in rw (f, e)
+pub row_ends : (t : List ℕ) (i m n : ℕ) → length t ≤ i → m ≡ n → list_all is_digit (drop i t) ≡ list_all is_digit t →
+    Some m ≡ cond (list_all is_digit t) (Some n) None
+row_ends t i m n h e k = let f : list_all is_digit t ≡ true = sym k ∙ every_all is_digit t i h in rw (f, e)
 
 -- what is answered is the check digit of the row
 pub front-under : (b : Option ℕ) (ds : List ℕ) → DigitBefore b → AllBelowBase 10 ds → AllBelowBase 10 (front b ++ ds)
@@ -40,7 +41,7 @@ pub row_checks : (b : Option ℕ) (t : List ℕ) (r : Option ℕ) → DigitBefor
 unfolding check_digit_after check_digit whole
 row_checks b t r h e =
     let ds = front b ++ values t in
-    rw e (elim (every is_digit t) as (λ d. every is_digit t ≡ d → IfSome (cond d (Some (inverse (running 0 0 ds))) None) (Checks ds)) [
+    rw e (elim (list_all is_digit t) as (λ d. list_all is_digit t ≡ d → IfSome (cond d (Some (inverse (running 0 0 ds))) None) (Checks ds)) [
       | true ↦ λ f. checks ds (running_lt 0 0 ds (lit< tt) (front-under b (values t) h (under-values t f)))
       | false ↦ λ f. tt
     ] refl)

@@ -1,7 +1,8 @@
 -- The check digit of a row of decimal digits, by Verhoeff's rule: product, mapped, passes, running, whole, inverse, check_digit;
 -- what makes it the right one: Checks; the check digit of a row of text: front, DigitBefore, check_digit_after.
 use Rattle.std.specs.Prelude.{◌≡◌, ℕ, zero, suc, ◌+◌, ◌-◌, ◌%◌, ◌<◌, cond, List, [], ◌∷◌, ◌++◌, Some, None, Option, nat_lt, slice_index}
-use Rattle.decimal.specs.Digits.{is_digit, every, values}
+use Rattle.std.specs.List.{list_all}
+use Rattle.decimal.specs.Digits.{is_digit, values}
 
 -- The product of two digits, a times b. `a + 5 - b` is `a - b` counted round five, without falling below 0.
 unfoldable pub product : ℕ → ℕ → ℕ
@@ -52,4 +53,4 @@ DigitBefore (Some d) = d < 10
 
 -- The check digit of a row of text with a digit set in front; none where a byte is no digit.
 unfoldable pub check_digit_after : Option ℕ → List ℕ → Option ℕ
-check_digit_after before text = cond (every is_digit text) (Some (check_digit (front before ++ values text))) None
+check_digit_after before text = cond (list_all is_digit text) (Some (check_digit (front before ++ values text))) None

@@ -1,14 +1,10 @@
 -- Decimal text and digits: is_digit (a byte is a decimal digit), values (the digits of text), spelled (the text of digits), padded
--- (the digits of a number); a test that holds of all: every (of a list), up_to (of the numbers below a bound).
+-- (the digits of a number); up_to (a test that holds of all numbers below a bound).
 use Rattle.std.specs.Prelude.{ℕ, zero, suc, ◌+◌, ◌-◌, ◌/◌, ◌%◌, Bool, true, ◌&&◌, List, [], ◌∷◌, ◌++◌, map, nat_le}
 
 -- from '0', which is the byte 48, to '9'
 abbrev pub is_digit : ℕ → Bool
 is_digit byte = nat_le 48 byte && nat_le byte 57
-
-abbrev pub every : (ℕ → Bool) → List ℕ → Bool
-every test [] = true
-every test (x ∷ xs) = test x && every test xs
 
 abbrev pub up_to : (ℕ → Bool) → ℕ → Bool
 up_to test zero = true

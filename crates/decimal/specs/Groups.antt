@@ -1,15 +1,16 @@
 -- From text to blocks. The rules of one group, by its place i from 0, over the digits of the whole entry: before, body, sealed_at,
 -- number_at, offset, lowest, is_block, has_block, block_at. The four tests of an entry's text: grouped, all_digits, all_sealed, all_blocks. What it
--- carries: words_in, blocks_in; what it comes to: blocks_of; what is known of blocks that were read: Sound. One group by itself,
+-- carries: blocks_in; what it comes to: blocks_of; what is known of blocks that were read: Sound. One group by itself,
 -- with the check digit before it: checked_group.
-use Rattle.std.specs.Prelude.{◌≡◌, ℕ, zero, suc, ◌+◌, ◌-◌, ◌*◌, ◌/◌, ◌^◌, ◌≤◌, Bool, ◌&&◌, ◌||◌, List, [], ◌∷◌, ◌++◌, length, take, drop, replicate, Some, None, Ok, Option, Result, ◌==◌, nat_le, nat_lt, slice_index}
-use Rattle.std.specs.List.{between}
+use Rattle.std.specs.Prelude.{ℕ, zero, suc, ◌+◌, ◌-◌, ◌*◌, ◌/◌, ◌^◌, ◌≤◌, Bool, ◌&&◌, ◌||◌, List, ◌++◌, map, length, take, Some, None, Ok, Option, Result, ◌==◌, nat_le, nat_lt, slice_index}
+use Rattle.std.specs.List.{between, range_with_len}
 use Rattle.std.specs.Int.Digits.{number_from_digits, AllBelowBase}
 use Rattle.refusal.specs.declared.Refusal.{Refusal}
 use Rattle.refusal.specs.declared.Refusal.TheVariants.{Length, NotADigit, CheckDigit, NoBlock}
 use Rattle.refusal.specs.Checks.{provided}
-use Rattle.decimal.specs.declared.blocks.Blocks.{Blocks}
-use Rattle.decimal.specs.Digits.{is_digit, every, up_to, values}
+use Rattle.arrayvec.specs.ArrayVec.{ArrayVec}
+use Rattle.std.specs.List.{list_all}
+use Rattle.decimal.specs.Digits.{is_digit, up_to, values}
 use Rattle.decimal.specs.CheckDigits.{front, check_digit}
 
 -- what the number of a first group is where its block is 0
@@ -52,7 +53,7 @@ unfoldable pub grouped : List ℕ → Bool
 grouped text = length text == 20 || length text == 40 || length text == 60 || length text == 80
 
 unfoldable pub all_digits : List ℕ → Bool
-all_digits text = every is_digit text
+all_digits text = list_all is_digit text
 
 unfoldable pub all_sealed : List ℕ → Bool
 all_sealed text = up_to (sealed_at (values text)) (length text / 20)
@@ -60,33 +61,28 @@ all_sealed text = up_to (sealed_at (values text)) (length text / 20)
 unfoldable pub all_blocks : List ℕ → Bool
 all_blocks text = up_to (has_block (values text)) (length text / 20)
 
--- Four places for blocks. Past the end no digits are left, which spell 0.
-unfoldable pub words_in : List ℕ → List ℕ
-words_in text = block_at (values text) 0 ∷ block_at (values text) 1 ∷ block_at (values text) 2 ∷ block_at (values text) 3 ∷ []
-
-abbrev pub blocks_in : List ℕ → Blocks
-blocks_in text = record { groups = length text / 20; words = words_in text }
+-- The blocks, one for each group.
+unfoldable pub blocks_in : List ℕ → List ℕ
+blocks_in text = map (block_at (values text)) (range_with_len 0 (length text / 20))
 
 -- An entry is refused for the first of the four tests that fails of the whole of it; else it comes to its blocks.
-unfoldable pub blocks_of : List ℕ → Result Blocks Refusal
+unfoldable pub blocks_of : List ℕ → Result (ArrayVec ℕ) Refusal
 blocks_of text =
     provided (grouped text) Length
     (provided (all_digits text) NotADigit
     (provided (all_sealed text) CheckDigit
     (provided (all_blocks text) NoBlock
-    (Ok (blocks_in text)))))
+    (Ok (record { items = blocks_in text })))))
 
--- One to four blocks below 2^61, and zeros in the places that are left.
-pub record Sound (b : Blocks) : Type 0 where
-  pub some : 1 ≤ b.groups
-  pub most : b.groups ≤ 4
-  pub places : length b.words ≡ 4
-  pub below : AllBelowBase (2 ^ 61) b.words
-  pub rest : drop b.groups b.words ≡ replicate (4 - b.groups) 0
+-- One to four blocks below 2^61.
+pub record Sound (blocks : List ℕ) : Type 0 where
+  pub some : 1 ≤ length blocks
+  pub most : length blocks ≤ 4
+  pub below : AllBelowBase (2 ^ 61) blocks
 
 -- The tests of digits and of the check digit for the text of one group; where both hold, its own check digit.
 unfoldable pub checked_group : Option ℕ → List ℕ → Result ℕ Refusal
 checked_group earlier text =
-    provided (every is_digit text) NotADigit
+    provided (list_all is_digit text) NotADigit
     (provided (slice_index (values text) 19 == check_digit (front earlier ++ take 19 (values text))) CheckDigit
     (Ok (slice_index (values text) 19)))

@@ -1,8 +1,7 @@
 -- What holds of every text and of all blocks: RoundTrip, WellKeyed, NoticesWrongDigit, swapped, NoticesSwap.
-use Rattle.std.specs.Prelude.{◌≡◌, ℕ, ◌+◌, ◌-◌, ◌%◌, ◌^◌, ◌<◌, ◌≤◌, true, List, ◌++◌, length, take, replicate, Ok, Err, ◌≢◌, slice_index, slice_set}
+use Rattle.std.specs.Prelude.{◌≡◌, ℕ, ◌+◌, ◌%◌, ◌^◌, ◌<◌, ◌≤◌, true, List, length, Ok, Err, ◌≢◌, slice_index, slice_set}
 use Rattle.std.specs.Int.Digits.{AllBelowBase}
 use Rattle.refusal.specs.declared.Refusal.TheVariants.{CheckDigit}
-use Rattle.decimal.specs.declared.blocks.Blocks.{Blocks}
 use Rattle.decimal.specs.Digits.{is_digit}
 use Rattle.decimal.specs.Groups.{grouped, all_digits, all_sealed, blocks_of}
 use Rattle.decimal.specs.Slips.{text_of}
@@ -10,8 +9,8 @@ use Rattle.decimal.specs.Slips.{text_of}
 -- Reading undoes writing, and writing undoes reading: blocks have one text, and a text that comes to blocks is that one.
 pub record RoundTrip : Type 0 where
   pub there : (bs : List ℕ) → 1 ≤ length bs → length bs ≤ 4 → AllBelowBase (2 ^ 61) bs →
-      blocks_of (text_of bs) ≡ Ok (record { groups = length bs; words = bs ++ replicate (4 - length bs) 0 })
-  pub back : (text : List ℕ) (b : Blocks) → blocks_of text ≡ Ok b → text ≡ text_of (take b.groups b.words)
+      blocks_of (text_of bs) ≡ Ok (record { items = bs })
+  pub back : (text bs : List ℕ) → blocks_of text ≡ Ok (record { items = bs }) → text ≡ text_of bs
 
 -- a text of one to four groups of digits, each with its right check digit
 pub record WellKeyed (text : List ℕ) : Type 0 where

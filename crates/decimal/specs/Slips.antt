@@ -1,7 +1,8 @@
 -- From blocks to text: seal_of, group_of, groups_after, numbers_of, text_of; which blocks can be written: writable; the bytes of a
 -- slip: slip_of.
 use Rattle.std.specs.Prelude.{ℕ, ◌+◌, ◌-◌, ◌*◌, Bool, ◌&&◌, List, [], ◌∷◌, ◌++◌, length, replicate, Some, None, Option, nat_le}
-use Rattle.decimal.specs.Digits.{every, spelled, padded}
+use Rattle.std.specs.List.{list_all}
+use Rattle.decimal.specs.Digits.{spelled, padded}
 use Rattle.decimal.specs.CheckDigits.{front, check_digit}
 use Rattle.decimal.specs.Groups.{offset, is_block}
 
@@ -28,7 +29,7 @@ text_of bs = spelled (groups_after None (numbers_of bs))
 
 -- One to four blocks, each below 2^61.
 unfoldable pub writable : List ℕ → Bool
-writable bs = nat_le 1 (length bs) && nat_le (length bs) 4 && every is_block bs
+writable bs = nat_le 1 (length bs) && nat_le (length bs) 4 && list_all is_block bs
 
 -- The eighty bytes of a slip: the text first, the rest zero.
 abbrev pub slip_of : List ℕ → List ℕ

@@ -1,8 +1,6 @@
 // What an entry of digits carries.
 
-// The blocks of an entry, one for each group of twenty digits; those that are not there are 0.
-#[derive(Clone, Copy)]
-pub struct Blocks {
-    pub groups: usize,
-    pub words: [u64; 4],
-}
+use arrayvec::ArrayVec;
+
+// The blocks of an entry, one for each group of twenty digits.
+pub type Blocks = ArrayVec<u64, 4>;

@@ -1,10 +1,12 @@
 // From text to blocks.
-ghost use Rattle.std.specs.Prelude.{◌≡◌, ◌+◌, ◌*◌, ◌≤◌, true, length, IfOk, Ok};
+ghost use Rattle.std.specs.Prelude.{◌≡◌, ◌-◌, ◌&&◌, true, take, IfOk, Ok, nat_le};
+ghost use Rattle.std.specs.Int.Digits.{number_from_digits};
 ghost use Rattle.refusal.specs.Checks.{provided};
 ghost use Rattle.refusal.specs.declared.Refusal.TheVariants.{CheckDigit, NoBlock};
-ghost use Rattle.decimal.specs.Digits.{is_digit, every, values};
+ghost use Rattle.std.specs.List.{list_all};
+ghost use Rattle.decimal.specs.Digits.{is_digit, values};
 ghost use Rattle.decimal.specs.CheckDigits.{DigitBefore};
-ghost use Rattle.decimal.specs.Groups.{grouped, all_sealed, all_blocks, checked_group, lowest, has_block, block_at, words_in, blocks_of, Sound};
+ghost use Rattle.decimal.specs.Groups.{grouped, all_sealed, all_blocks, checked_group, lowest, is_block, blocks_in, blocks_of, Sound};
 
 use crate::blocks::Blocks;
 use crate::text::{all_digits, digit_of, number_of};
@@ -15,17 +17,13 @@ use refusal::Refusal;
 const OFFSET: u64 = 7394156990786306048;
 
 // Checks the digits and the check digit of one group, given the check digit of the group before it, and answers its own.
-pub(crate) fn check_group(group: &[u8], before: Option<u8>) -> Result<u8, Refusal>
-    requires twenty { length group.now ≡ 20 }
-    requires digit { DigitBefore before }
+#[tactic(auto, using(crate::proofs::Grouping::group_undigit, crate::proofs::Grouping::group_unlast, crate::proofs::Grouping::group_sealed))]
+pub(crate) fn check_group(group: &[u8; 20], before: Option<u8>) -> Result<u8, Refusal>
+    requires { DigitBefore before }
     ensures { result ≡ checked_group before group.now }
 {
-    let Some(expected) = check_digit_after(before, &group[0..19]) else {
-        return Err(Refusal::NotADigit);
-    };
-    let Some(last) = digit_of(group[19]) else {
-        return Err(Refusal::NotADigit);
-    };
+    let expected = check_digit_after(before, &group[0..19]).ok_or(Refusal::NotADigit)?;
+    let last = digit_of(group[19]).ok_or(Refusal::NotADigit)?;
     if last != expected {
         return Err(Refusal::CheckDigit);
     }
@@ -34,12 +32,13 @@ pub(crate) fn check_group(group: &[u8], before: Option<u8>) -> Result<u8, Refusa
 
 // Every group's check digit. That all bytes are digits is known by now: a byte that is none, in whichever group, is told first.
 fn check_groups(text: &[u8]) -> Result<(), Refusal>
-    requires { every is_digit text.now ≡ true }
+    requires { list_all is_digit text.now ≡ true }
     ensures { result ≡ provided (all_sealed text.now) CheckDigit (Ok tt) }
 {
+    let (groups, _) = text.as_chunks::<20>();
     let mut before = None;
-    for i in 0..text.len() / 20 {
-        before = Some(check_group(&text[20 * i..20 * i + 20], before)?);
+    for group in groups {
+        before = Some(check_group(group, before)?);
     }
     Ok(())
 }
@@ -51,45 +50,50 @@ pub(crate) fn lowest_number(i: usize) -> u64
     if i == 0 { OFFSET } else { 0 }
 }
 
-fn block_at(text: &[u8], i: usize) -> Result<u64, Refusal>
-    requires decimal { every is_digit text.now ≡ true }
-    requires there { 20 * i + 20 ≤ length text.now }
-    ensures { result ≡ provided (has_block (values text.now) i) NoBlock (Ok (block_at (values text.now) i)) }
+pub(crate) fn is_block(n: &u64) -> bool
+    ensures { result ≡ is_block n.now }
 {
-    let n = number_of(&text[20 * i..20 * i + 19]);
-    let lowest = lowest_number(i);
-    if n < lowest {
-        return Err(Refusal::NoBlock);
-    }
-    if n - lowest >= 1 << 61 {
-        return Err(Refusal::NoBlock);
-    }
-    Ok(n - lowest)
+    *n < 1 << 61
 }
 
-fn words_of(text: &[u8]) -> Result<[u64; 4], Refusal>
-    requires decimal { every is_digit text.now ≡ true }
+// The block of one group, by its place.
+fn block_of(group: &[u8; 20], i: usize) -> Result<u64, Refusal>
+    requires { list_all is_digit group.now ≡ true }
+    ensures { let n = number_from_digits 10 (values (take 19 group.now)) in result ≡ provided (nat_le (lowest i) n && is_block (n - lowest i)) NoBlock (Ok (n - lowest i)) }
+{
+    number_of(&group[0..19])
+        .checked_sub(lowest_number(i))
+        .filter(is_block)
+        .ok_or(Refusal::NoBlock)
+}
+
+// Every group's block.
+#[tactic(auto, using(crate::proofs::Grouping::group_is, crate::proofs::Grouping::group_digits_all, crate::proofs::Grouping::block_there, crate::proofs::Grouping::blocks_more, crate::proofs::Bounded::up_more), unfolding(crate::specs::Groups::all_blocks, crate::specs::Groups::blocks_in))]
+fn blocks_in(text: &[u8]) -> Result<Blocks, Refusal>
+    requires decimal { list_all is_digit text.now ≡ true }
     requires whole { grouped text.now ≡ true }
-    ensures { result ≡ provided (all_blocks text.now) NoBlock (Ok (words_in text.now)) }
+    ensures { result ≡ provided (all_blocks text.now) NoBlock (Ok (record { items = blocks_in text.now })) }
 {
-    let mut words = [0; 4];
-    for i in 0..text.len() / 20 {
-        words[i] = block_at(text, i)?;
+    let (groups, _) = text.as_chunks::<20>();
+    let mut blocks = Blocks::new();
+    for (i, group) in groups.iter().enumerate() {
+        blocks.push(block_of(group, i)?);
     }
-    Ok(words)
+    Ok(blocks)
 }
 
+#[tactic(auto, unfolding(crate::specs::Groups::grouped))]
 fn is_grouped(text: &[u8]) -> bool
     ensures { result ≡ grouped text.now }
 {
-    let n = text.len();
-    n == 20 || n == 40 || n == 60 || n == 80
+    matches!(text.len(), 20 | 40 | 60 | 80)
 }
 
 // The blocks of an entry. Each check looks at the whole entry before the next begins.
+#[tactic(auto, unfolding(crate::specs::Groups::blocks_of, crate::specs::Groups::all_digits))]
 pub fn read_blocks(text: &[u8]) -> Result<Blocks, Refusal>
     ensures value { result ≡ blocks_of text.now }
-    ensures bounds { IfOk result Sound }
+    ensures bounds { IfOk result (λ blocks. Sound blocks.items) }
 {
     if !is_grouped(text) {
         return Err(Refusal::Length);
@@ -98,9 +102,5 @@ pub fn read_blocks(text: &[u8]) -> Result<Blocks, Refusal>
         return Err(Refusal::NotADigit);
     }
     check_groups(text)?;
-    let words = words_of(text)?;
-    Ok(Blocks {
-        groups: text.len() / 20,
-        words,
-    })
+    blocks_in(text)
 }

@@ -1,6 +1,7 @@
 // The check digit of a row of decimal digits, by Verhoeff's rule.
 ghost use Rattle.std.specs.Prelude.{◌≡◌, ◌<◌, ◌≤◌, ◌++◌, IfSome, if◌then◌else◌, Some, None};
-ghost use Rattle.decimal.specs.Digits.{is_digit, every, values};
+ghost use Rattle.std.specs.List.{list_all};
+ghost use Rattle.decimal.specs.Digits.{is_digit, values};
 ghost use Rattle.decimal.specs.CheckDigits.{product, passes, inverse, running, front, check_digit_after, Checks, DigitBefore};
 
 use crate::text::digit_of;
@@ -31,16 +32,21 @@ const POWERS: [[u8; 10]; 8] = [
     [7, 0, 4, 6, 9, 1, 3, 2, 5, 8],
 ];
 
+#[tactic(auto, using(crate::proofs::Tables::product_at))]
 fn times(a: u8, b: u8) -> u8
-    requires { (a < 10) × (b < 10) }
-    ensures { (result ≡ product a b) × (result < 10) }
+    requires left { a < 10 }
+    requires right { b < 10 }
+    ensures value { result ≡ product a b }
+    ensures digit { result < 10 }
 {
     PRODUCT[a as usize][b as usize]
 }
 
+#[tactic(auto, using(crate::proofs::Tables::power_at))]
 fn passed(place: usize, digit: u8) -> u8
     requires { digit < 10 }
-    ensures { (result ≡ passes place digit) × (result < 10) }
+    ensures value { result ≡ passes place digit }
+    ensures digit { result < 10 }
 {
     POWERS[place % 8][digit as usize]
 }
@@ -54,22 +60,22 @@ fn undone(p: u8) -> u8
 }
 
 // Runs text on from `place`, where the product so far is `start`, and answers the digit that closes the row.
+#[tactic(auto, using(crate::proofs::Spelling::every_more, crate::proofs::Rows::running_more, crate::proofs::Rows::running_all, crate::proofs::Rows::row_ends, crate::proofs::Verdicts::was_some))]
 fn closing(place: usize, start: u8, text: &[u8]) -> Option<u8>
     requires front { place ≤ 1 }
     requires digit { start < 10 }
-    ensures { result ≡ (if every is_digit text.now then Some (inverse (running place start (values text.now))) else None) }
+    ensures { result ≡ (if list_all is_digit text.now then Some (inverse (running place start (values text.now))) else None) }
 {
     let mut product = start;
     for (i, byte) in text.iter().enumerate() {
-        let Some(digit) = digit_of(*byte) else {
-            return None;
-        };
+        let digit = digit_of(*byte)?;
         product = times(product, passed(place + i, digit));
     }
     Some(undone(product))
 }
 
 // The check digit of a row of text with the digit `before`, where there is one, set in front of it.
+#[tactic(auto, using(crate::proofs::Rows::row_checks), unfolding(crate::specs::CheckDigits::check_digit_after, crate::specs::CheckDigits::check_digit, crate::specs::CheckDigits::whole, crate::specs::CheckDigits::running))]
 pub(crate) fn check_digit_after(before: Option<u8>, text: &[u8]) -> Option<u8>
     requires { DigitBefore before }
     ensures value { result ≡ check_digit_after before text.now }

@@ -1,11 +1,12 @@
 // From blocks to text.
 ghost use Rattle.std.specs.Prelude.{◌≡◌, ◌*◌, ◌≤◌, true, length, if◌then◌else◌, Some, None};
-ghost use Rattle.decimal.specs.Digits.{every, spelled};
+ghost use Rattle.std.specs.List.{list_all};
+ghost use Rattle.decimal.specs.Digits.{spelled};
 ghost use Rattle.decimal.specs.CheckDigits.{DigitBefore};
 ghost use Rattle.decimal.specs.Groups.{is_block};
 ghost use Rattle.decimal.specs.Slips.{seal_of, group_of, writable, slip_of};
 
-use crate::reading::lowest_number;
+use crate::reading::{is_block, lowest_number};
 use crate::text::write_digits;
 use crate::verhoeff::check_digit_after;
 
@@ -24,21 +25,17 @@ fn write_group(number: u64, before: Option<u8>, group: &mut [u8]) -> u8
 }
 
 fn all_below(blocks: &[u64]) -> bool
-    ensures { result ≡ every is_block blocks.now }
+    ensures { result ≡ list_all is_block blocks.now }
 {
-    for block in blocks {
-        if *block >= 1 << 61 {
-            return false;
-        }
-    }
-    true
+    blocks.iter().all(is_block)
 }
 
+#[tactic(auto, unfolding(crate::specs::Slips::writable))]
 fn is_writable(blocks: &[u64]) -> bool
     ensures value { result ≡ writable blocks.now }
     ensures few { result ≡ true → length blocks.now ≤ 4 }
 {
-    1 <= blocks.len() && blocks.len() <= 4 && all_below(blocks)
+    matches!(blocks.len(), 1..=4) && all_below(blocks)
 }
 
 // Writes blocks as text and answers its length. The rest of the slip is zeroed, so that nothing of an earlier one stays behind.
@@ -51,6 +48,7 @@ pub fn write_blocks(blocks: &[u64], slip: &mut [u8; 80]) -> Option<usize>
     }
     *slip = [0; 80];
     let mut before = None;
+    // By index: of a slice that `chunks_exact_mut` lent for writing, the proof knows the length alone afterwards.
     for (i, block) in blocks.iter().enumerate() {
         let number = lowest_number(i) + *block;
         before = Some(write_group(number, before, &mut slip[20 * i..20 * i + 20]));

@@ -10,13 +10,13 @@ use Rattle.token.specs.declared.tariff.Tariff.{Tariff}
 use Rattle.token.specs.Shapes.{shape_of}
 use Rattle.token.specs.RatePrices.{tariff_in}
 use Rattle.decimal.specs.Groups.{blocks_of, blocks_in}
-use Rattle.decimal.specs.declared.blocks.Blocks.{Blocks}
+use Rattle.arrayvec.specs.ArrayVec.{ArrayVec}
 use Rattle.window.specs.Recovery.{in_reach}
 use Rattle.window.specs.Marks.{marked}
 use Rattle.record.specs.declared.Record.{Record}
 use Rattle.record.specs.Changes.{taken}
 use Rattle.sealing.specs.Suites.{Suite, multiplier_of}
-use Rattle.sealing.specs.Opening.{present, parts_of, through_low, opened_as, opened}
+use Rattle.sealing.specs.Opening.{parts_of, through_low, opened_as, opened}
 use Rattle.sealing.specs.declared.opening.Opened.{Opened}
 use Rattle.entry.specs.declared.worth.Worth.{Worth}
 use Rattle.entry.specs.Reading.{sub_class_read, slip_read, amount_in, brought_by, tariff_brought}
@@ -33,15 +33,15 @@ brings Rates (Some t) f = refl
 brings Rates None f = refl
 
 -- digits to a slip in clear
-reads : (text : List ℕ) (f : Blocks → Result Worth Refusal) → and_then (blocks_of text) f ≡ checked (digit_rules text) (f (blocks_in text))
+reads : (text : List ℕ) (f : ArrayVec ℕ → Result Worth Refusal) → and_then (blocks_of text) f ≡ checked (digit_rules text) (f (record { items = blocks_in text }))
 unfolding blocks_of
-reads text f = through (digit_rules text) (Ok (blocks_in text)) f
+reads text f = through (digit_rules text) (Ok (record { items = blocks_in text })) f
 
 opens : (s : Suite) (text : List ℕ) (f : Opened → Result Worth Refusal) →
-    and_then (opened s.deciphered (blocks_in text)) f ≡ checked (shape_rules (present (blocks_in text))) (f (slip_read s text))
+    and_then (opened s.deciphered (blocks_in text)) f ≡ checked (shape_rules (blocks_in text)) (f (slip_read s text))
 unfolding opened shape_of slip_read
 opens s text f =
-    let rules = shape_rules (present (blocks_in text)) in
+    let rules = shape_rules (blocks_in text) in
     let open_as : SubClass → Result Opened Refusal = λ k. Ok (opened_as k (through_low s.deciphered k (blocks_in text))) in
     ap (λ (r : Result Opened Refusal). and_then r f) (through rules (Ok (sub_class_read text)) open_as) ∙ through rules (Ok (slip_read s text)) f
 
@@ -85,9 +85,9 @@ staged s r writes text =
     let slip = slip_read s text in
     let written : Worth → Result Worth Refusal = λ w. provided (ltb 0 writes) NoWrites (Ok w) in
     let weigh : Opened → Result Worth Refusal = λ o. weighed s.settings s.tagged r o in
-    let open_then : Blocks → Result Worth Refusal = λ b. and_then (opened s.deciphered b) weigh in
+    let open_then : ArrayVec ℕ → Result Worth Refusal = λ b. and_then (opened s.deciphered b.items) weigh in
     let first = digit_rules text in
-    let second = shape_rules (present (blocks_in text)) in
+    let second = shape_rules (blocks_in text) in
     let third = slip_rules s.settings s.tagged m slip in
     let worth : Result Worth Refusal = Ok (worth_of s.settings r (number_in m slip) slip) in
     let all : judged_by s r text ≡ checked first (checked second (checked third worth)) =

@@ -9,13 +9,13 @@ use Rattle.token.specs.Shapes.{sub_class_in}
 use Rattle.token.specs.RatePrices.{tariff_in}
 use Rattle.decimal.specs.Groups.{blocks_in}
 use Rattle.sealing.specs.Suites.{Suite, amount_of}
-use Rattle.sealing.specs.Opening.{present, through_low, opened_as, parts_of}
+use Rattle.sealing.specs.Opening.{through_low, opened_as, parts_of}
 use Rattle.sealing.specs.declared.opening.Opened.{Opened}
 use Rattle.sealing.specs.declared.settings.Settings.{Settings}
 
 -- the SubClass that the first block names
 abbrev pub sub_class_read : List ℕ → SubClass
-sub_class_read text = sub_class_named (sub_class_in (present (blocks_in text)))
+sub_class_read text = sub_class_named (sub_class_in (blocks_in text))
 
 -- the slip, deciphered
 unfoldable pub slip_read : Suite → List ℕ → Opened

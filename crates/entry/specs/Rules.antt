@@ -15,7 +15,7 @@ use Rattle.window.specs.Marks.{marked}
 use Rattle.record.specs.declared.Record.{Record}
 use Rattle.sealing.specs.Suites.{Suite, multiplier_of}
 use Rattle.sealing.specs.Messages.{index_for, tag_field}
-use Rattle.sealing.specs.Opening.{present, further_of, parts_of}
+use Rattle.sealing.specs.Opening.{further_of, parts_of}
 use Rattle.sealing.specs.declared.opening.Opened.{Opened}
 use Rattle.sealing.specs.declared.settings.Settings.{Settings}
 use Rattle.entry.specs.Reading.{slip_read, amount_in}
@@ -87,5 +87,5 @@ slip_rules s tagged m slip =
 -- the rules of an entry, in the order of their numbers; the last asks for a write
 abbrev pub entry_rules : Suite → Standing → List ℕ → List Rule
 entry_rules s m text =
-    digit_rules text ++ (shape_rules (present (blocks_in text))
+    digit_rules text ++ (shape_rules (blocks_in text)
     ++ (slip_rules s.settings s.tagged m (slip_read s text) ++ (rule NoWrites (nat_lt 0 m.writes) ∷ [])))

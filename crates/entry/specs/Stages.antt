@@ -56,5 +56,5 @@ weighed s tagged r slip =
 abbrev pub judged_by : Suite → Record → List ℕ → Result Worth Refusal
 judged_by s r text =
     and_then (blocks_of text) (λ blocks.
-    and_then (opened s.deciphered blocks) (λ slip.
+    and_then (opened s.deciphered blocks.items) (λ slip.
     weighed s.settings s.tagged r slip))

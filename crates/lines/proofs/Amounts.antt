@@ -6,7 +6,8 @@ use Rattle.std.specs.Int.Digits.{number_from_digits}
 use Rattle.std.proofs.lemmas.Int.Digits.{number_more}
 use Rattle.std.proofs.lemmas.List.{take_all, length-map}
 use Rattle.std.proofs.lemmas.Bool.{and_parts}
-use Rattle.decimal.specs.Digits.{is_digit, every, values}
+use Rattle.std.specs.List.{list_all}
+use Rattle.decimal.specs.Digits.{is_digit, values}
 use Rattle.decimal.proofs.Spelling.{digit_in, get_or-values, every_more}
 use Rattle.decimal.proofs.Rows.{row_stops, row_ends}
 use Rattle.lines.specs.Asking.{amount_of}
@@ -14,18 +15,18 @@ use Rattle.lines.specs.Asking.{amount_of}
 pub wrong_length : (t : List ℕ) → (1 ≤ length t → length t ≤ 9 → ⊥) → None ≡ amount_of t
 unfolding amount_of
 wrong_length t no-amount =
-    elim (leb 1 (length t) && leb (length t) 9) as (λ b. (leb 1 (length t) && leb (length t) 9) ≡ b → None ≡ cond b (cond (every is_digit t) (Some (number_from_digits 10 (values t))) None) None) [
+    elim (leb 1 (length t) && leb (length t) 9) as (λ b. (leb 1 (length t) && leb (length t) 9) ≡ b → None ≡ cond b (cond (list_all is_digit t) (Some (number_from_digits 10 (values t))) None) None) [
       | true ↦ λ e. let p = and_parts (leb 1 (length t)) (leb (length t) 9) e in absurd (no-amount (leb-true 1 (length t) p.0) (leb-true (length t) 9 p.1))
       | false ↦ λ e. refl
     ] refl
 
-pub no_digit : (t : List ℕ) (i : ℕ) → 1 ≤ length t → length t ≤ 9 → i < length t → is_digit (get_or t i 0) ≡ false → every is_digit (drop i t) ≡ every is_digit t →
+pub no_digit : (t : List ℕ) (i : ℕ) → 1 ≤ length t → length t ≤ 9 → i < length t → is_digit (get_or t i 0) ≡ false → list_all is_digit (drop i t) ≡ list_all is_digit t →
     None ≡ amount_of t
 unfolding amount_of
 no_digit t i low high h e k = rw (le-leb 1 (length t) low, le-leb (length t) 9 high) (row_stops t i (number_from_digits 10 (values t)) h e k)
 
 pub whole_amount : (t : List ℕ) (i n : ℕ) → 1 ≤ length t → length t ≤ 9 → length t ≤ i → n ≡ number_from_digits 10 (take i (values t)) →
-    every is_digit (drop i t) ≡ every is_digit t → Some n ≡ amount_of t
+    list_all is_digit (drop i t) ≡ list_all is_digit t → Some n ≡ amount_of t
 unfolding amount_of
 whole_amount t i n low high h v k =
     let l : length (values t) ≤ i = simp length-map (omega arith) in
@@ -37,10 +38,10 @@ pub record OneMore (t : List ℕ) (i n : ℕ) : Type 0 where
   pub fits : n * 10 + (get_or t i 0 - 48) < 10 ^ 9
   pub short : n * 10 + (get_or t i 0 - 48) < 10 ^ (i + 1)
   pub spells : n * 10 + (get_or t i 0 - 48) ≡ number_from_digits 10 (take (i + 1) (values t))
-  pub rest : every is_digit (drop (i + 1) t) ≡ every is_digit t
+  pub rest : list_all is_digit (drop (i + 1) t) ≡ list_all is_digit t
 
 pub one_more : (t : List ℕ) (i n : ℕ) → length t ≤ 9 → i < length t → is_digit (get_or t i 0) ≡ true →
-    (n ≡ number_from_digits 10 (take i (values t))) × (n < 10 ^ i) × (every is_digit (drop i t) ≡ every is_digit t) → OneMore t i n
+    (n ≡ number_from_digits 10 (take i (values t))) × (n < 10 ^ i) × (list_all is_digit (drop i t) ≡ list_all is_digit t) → OneMore t i n
 one_more t i n high h e inv =
     let d = digit_in (get_or t i 0) e in
     let l : length (values t) ≡ length t = length-map t (λ b. b - 48) in

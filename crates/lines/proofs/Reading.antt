@@ -3,11 +3,12 @@ use Rattle.std.proofs.Common.{◌≡◌, ℕ, ◌^◌, ◌<◌, ◌≤◌, true,
 use Rattle.std.specs.Int.Digits.{number_from_digits, number_from_digits_after}
 use Rattle.std.proofs.lemmas.Fmt.{digits_decimal, digits_value-decimal, decimal_nonempty, length-decimal-le}
 use Rattle.std.proofs.lemmas.Str.Parse.{IsNumeralModel, numerals_by_fold}
-use Rattle.decimal.specs.Digits.{is_digit, every, values}
+use Rattle.std.specs.List.{list_all}
+use Rattle.decimal.specs.Digits.{is_digit, values}
 use Rattle.lines.specs.Asking.{amount_of, spend_of, RequestsRead}
 
 -- text of digits and the number that it spells, in the words of the definitions here
-numerals : IsNumeralModel (λ ds. every is_digit ds ≡ true) (λ ds. number_from_digits 10 (values ds))
+numerals : IsNumeralModel (λ ds. list_all is_digit ds ≡ true) (λ ds. number_from_digits 10 (values ds))
 numerals = numerals_by_fold _ (search rules) (λ n ds. number_from_digits_after 10 n (values ds)) (search rules)
 
 amount_decimal : (n : ℕ) → n < 10 ^ 9 → amount_of (decimal n) ≡ Some n

@@ -2,7 +2,8 @@
 -- opens (how a line begins); spend_of, request_of (the request of a line). That requests are read as they are written: RequestsRead.
 use Rattle.std.specs.Prelude.{◌≡◌, ℕ, ◌^◌, ◌<◌, Bool, cond, ◌&&◌, List, ◌++◌, length, drop, Some, None, codes, decimal, Option, ◌==◌, nat_le, slice_index}
 use Rattle.std.specs.Int.Digits.{number_from_digits}
-use Rattle.decimal.specs.Digits.{is_digit, every, values}
+use Rattle.std.specs.List.{list_all}
+use Rattle.decimal.specs.Digits.{is_digit, values}
 use Rattle.lines.specs.declared.asking.Request.{Request}
 use Rattle.lines.specs.declared.asking.Request.TheVariants.{Enter, Spend}
 
@@ -20,7 +21,7 @@ plain None = unknown
 
 -- One to nine decimal digits, zeros in front among them, spell an amount; nothing else does.
 unfoldable pub amount_of : List ℕ → Option ℕ
-amount_of text = cond (nat_le 1 (length text) && nat_le (length text) 9) (cond (every is_digit text) (Some (number_from_digits 10 (values text))) None) None
+amount_of text = cond (nat_le 1 (length text) && nat_le (length text) 9) (cond (list_all is_digit text) (Some (number_from_digits 10 (values text))) None) None
 
 -- A line opens with a letter and one blank, which is the byte 32. A line that is too short reads 0 there.
 abbrev pub opens : ℕ → List ℕ → Bool

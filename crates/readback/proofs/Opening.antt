@@ -1,6 +1,6 @@
 -- What a slip that was printed is read as. Its text: keyed, digits; its shape: Shape, shape; the slip in clear: first_back, sold_slip,
--- slip_read_lem; its further blocks and its data parts: further_back, further_read, parts-read.
-use Rattle.std.proofs.Common.{◌≡◌, ℕ, suc, ◌-◌, ◌*◌, ◌%◌, ◌^◌, true, List, ◌∷◌, map, length, get_or, take, replicate, Ok, sym, ap, ◌∙◌, subst, div-one, arith}
+-- slip_read_lem; its further blocks and its data parts: further_read, parts-read.
+use Rattle.std.proofs.Common.{◌≡◌, ℕ, suc, ◌*◌, ◌%◌, ◌^◌, true, List, ◌∷◌, map, length, get_or, take, Ok, sym, refl, ap, ◌∙◌, subst, div-one, arith}
 use Rattle.std.proofs.lemmas.List.{take_at}
 use Rattle.refusal.proofs.Passing.{provided_ok}
 use Rattle.refusal.specs.declared.Refusal.TheVariants.{OtherSubClass, WrongBlocks}
@@ -14,20 +14,20 @@ use Rattle.token.specs.Widths.{packed, unpacked}
 use Rattle.token.proofs.Numbered.{carried}
 use Rattle.token.proofs.Packs.{packs}
 use Rattle.token.proofs.Shapes.{shape_made}
+use Rattle.arrayvec.specs.ArrayVec.{ArrayVec}
 use Rattle.decimal.specs.Groups.{blocks_in}
 use Rattle.decimal.proofs.Grouping.{Passes, passed}
 use Rattle.decimal.proofs.Returning.{there as text_reads, length_text}
 use Rattle.sealing.specs.Opening.{further_of, parts_of, opened_as}
 use Rattle.sealing.specs.Suites.{Suite, Sound}
-use Rattle.sealing.specs.Opening.{through_low, present}
-use Rattle.sealing.specs.Through.{as_blocks}
+use Rattle.sealing.specs.Opening.{through_low}
 use Rattle.sealing.specs.declared.opening.Opened.{Opened}
 use Rattle.sealing.proofs.Walk.{low_back}
 use Rattle.entry.specs.Reading.{slip_read}
 use Rattle.sale.specs.declared.orders.Sale.{Sale}
 use Rattle.sale.specs.Sales.{parts_sold}
 use Rattle.sale.specs.Slips.{further_sold, first_sold, tag_sold, clear_blocks, sealed_blocks, slip_text, slip_length, slip_for}
-use Rattle.sale.proofs.Sealed.{Sold, carries, first_small, low_sold, low_fits, Sealed, sealed, blocks_are, blocks_below, blocks_length, blocks_few}
+use Rattle.sale.proofs.Sealed.{Sold, carries, first_small, low_sold, low_fits, Sealed, sealed, blocks_below, blocks_length, blocks_few}
 
 -- a first block is found again in the number that it packs to
 first_back : (b : FirstBlock) → Small b → first_block_of (packed first_widths (first_fields b)) ≡ b
@@ -42,10 +42,6 @@ first_back b h =
       amt = get_or (e i) 3 0;
       tmac = last i;
     }
-
--- the further blocks behind a first
-further_back : (k : SubClass) (f : ℕ) (gs : List ℕ) → further_of (opened_as k (as_blocks (f ∷ gs))) ≡ gs
-further_back k f gs = take_at gs (replicate (4 - suc (length gs)) 0) (suc (length gs) - 1) (omega arith)
 
 -- blocks make a slip of the SubClass
 pub record Shape (bs : List ℕ) (k : SubClass) : Type 0 where
@@ -69,7 +65,7 @@ module _ (s : Suite) (o : Sound s) (number index : ℕ) (sale : Sale) (v : Sold 
   text = slip_text s number index sale
 
   abbrev blocks : List ℕ
-  blocks = present (sealed_blocks s number index sale)
+  blocks = sealed_blocks s number index sale
 
   -- the blocks as they are printed
   z : Sealed s number index sale
@@ -79,14 +75,14 @@ module _ (s : Suite) (o : Sound s) (number index : ℕ) (sale : Sale) (v : Sold 
   pub keyed : Passes text × (blocks_in text ≡ sealed_blocks s number index sale)
   keyed =
       let n = blocks_length s number index sale z in
-      let p = passed text (as_blocks blocks) (text_reads blocks (omega (arith, n)) (blocks_few s number index sale z) (blocks_below s number index sale z)) in
-      (p.0, sym p.1 ∙ ap as_blocks (blocks_are s number index sale z) ∙ sym z.are)
+      let p = passed text (record { items = blocks }) (text_reads blocks (omega (arith, n)) (blocks_few s number index sale z) (blocks_below s number index sale z)) in
+      (p.0, ap (λ (v : ArrayVec ℕ). v.items) (sym p.1))
 
-  pub shape : Shape (present (blocks_in text)) k
+  pub shape : Shape (blocks_in text) k
   shape =
       let c = carries k sale.prices v.prices in
       let t : takes k (suc (length z.parts)) ≡ true = ap (λ (n : ℕ). takes k (suc n)) z.as_many ∙ c.taken in
-      let there : present (blocks_in text) ≡ z.first ∷ numbered z.parts = ap present keyed.1 ∙ blocks_are s number index sale z in
+      let there : blocks_in text ≡ z.first ∷ numbered z.parts = keyed.1 ∙ z.are in
       let P : List ℕ → Type 0 = λ bs. Shape bs k in
       subst P (sym there) (shaped (z.first ∷ numbered z.parts) k (shape_made z.first z.parts k z.names t z.carried))
 
@@ -95,7 +91,7 @@ module _ (s : Suite) (o : Sound s) (number index : ℕ) (sale : Sale) (v : Sold 
   sold_slip = record {
     subclass = k;
     first = first_sold number sale (tag_sold s number index sale);
-    blocks = as_blocks (clear_blocks s number index sale);
+    blocks = record { items = clear_blocks s number index sale };
   }
 
   pub slip_read_lem : slip_read s text ≡ sold_slip
@@ -103,15 +99,15 @@ module _ (s : Suite) (o : Sound s) (number index : ℕ) (sale : Sale) (v : Sold 
   slip_read_lem =
       let c = carries k sale.prices v.prices in
       let low = low_sold number sale (tag_sold s number index sale) in
-      let clear : through_low s.deciphered k (sealed_blocks s number index sale) ≡ as_blocks (clear_blocks s number index sale) =
+      let clear : through_low s.deciphered k (sealed_blocks s number index sale) ≡ clear_blocks s number index sale =
       low_back s o k sale.subclass low (parts_sold sale.prices) (low_fits s o number index sale v) c.carried in
       let first = first_back (first_sold number sale (tag_sold s number index sale)) (first_small s o number index sale v) in
       (λ i. opened_as (shape.named i) (through_low s.deciphered (shape.named i) (keyed.1 i)))
       ∙ ap (opened_as k) clear
-      ∙ (λ i. record { subclass = k; first = first i; blocks = as_blocks (clear_blocks s number index sale) })
+      ∙ (λ i. record { subclass = k; first = first i; blocks = record { items = clear_blocks s number index sale } })
 
   pub further_read : further_of sold_slip ≡ further_sold sale
-  further_read = further_back k (packed first_widths (first_fields (first_sold number sale (tag_sold s number index sale)))) (further_sold sale)
+  further_read = refl
 
   pub parts-read : parts_of sold_slip ≡ parts_sold sale.prices
   parts-read = ap (map part_of) further_read ∙ (carried.back (parts_sold sale.prices) (carries k sale.prices v.prices).carried).1

@@ -18,7 +18,7 @@ use Rattle.record.specs.declared.Record.{Record}
 use Rattle.record.specs.Changes.{taken}
 use Rattle.sealing.specs.Suites.{Suite, multiplier_of}
 use Rattle.sealing.specs.Messages.{index_for, tag_field}
-use Rattle.sealing.specs.Opening.{present, further_of, parts_of}
+use Rattle.sealing.specs.Opening.{further_of, parts_of}
 use Rattle.entry.specs.declared.worth.Worth.{Worth}
 use Rattle.entry.specs.Reading.{slip_read, amount_read, brought_by}
 use Rattle.entry.specs.Rules.{Standing, standing, number_in, authentic, entry_rules}
@@ -69,7 +69,7 @@ with_rest number test rest = (number, test, rest)
 in_order : (s : Suite) (m : Standing) (text : List ℕ) → InOrder (Says s m text) 1 (entry_rules s m text)
 in_order s m text =
     let slip = slip_read s text in
-    let blocks = present (blocks_in text) in
+    let blocks = blocks_in text in
     let low = slip.first.tstn in
     let marked = m.counted (number_in m slip) in
     let sum = m.credit + amount_read s text in

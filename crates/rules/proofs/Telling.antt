@@ -8,7 +8,8 @@ use Rattle.std.proofs.lemmas.Bool.{false≢true, leb-true, le-leb, ltb-true, lt-
 use Rattle.std.proofs.lemmas.Bool.Decides.{nat_tests, Decides-eqb, Decides-ltb, Decides-and, Decides-like, Decides-below_and}
 use Rattle.refusal.specs.Checks.{provided}
 use Rattle.refusal.specs.declared.Refusal.TheVariants.{OtherSubClass, WrongBlocks}
-use Rattle.decimal.specs.Digits.{is_digit, every, up_to, values}
+use Rattle.std.specs.List.{list_all}
+use Rattle.decimal.specs.Digits.{is_digit, up_to, values}
 use Rattle.decimal.specs.CheckDigits.{product, whole, inverse, check_digit, front}
 use Rattle.decimal.specs.Groups.{before, body, sealed_at, number_at, lowest, has_block, grouped, all_digits, all_sealed, all_blocks}
 use Rattle.decimal.proofs.Tables.{checks}
@@ -39,7 +40,7 @@ tells_length text = (λ e. grind (arith, nat_tests), λ h. grind (arith, nat_tes
 pub tells_digits : (text : List ℕ) → Decides (all_digits text) (AllByRecursion (λ byte. (48 ≤ byte) × (byte ≤ 57)) text)
 unfolding all_digits
 tells_digits text =
-    Decides-by_and is_digit (λ byte. (48 ≤ byte) × (byte ≤ 57)) (every is_digit)
+    Decides-by_and is_digit (λ byte. (48 ≤ byte) × (byte ≤ 57)) (list_all is_digit)
     (λ byte. Decides-and (leb 48 byte) (leb byte 57) (decides_leb 48 byte) (decides_leb byte 57)) refl (λ _ _. refl) text
 
 -- digits of decimal text, and rows of them

@@ -21,7 +21,7 @@ use Rattle.record.specs.declared.Record.{Record}
 use Rattle.record.specs.Changes.{taken}
 use Rattle.sealing.specs.Suites.{Suite, multiplier_of}
 use Rattle.sealing.specs.Messages.{index_for, tag_field}
-use Rattle.sealing.specs.Opening.{present, further_of, parts_of}
+use Rattle.sealing.specs.Opening.{further_of, parts_of}
 use Rattle.sealing.specs.declared.opening.Opened.{Opened}
 use Rattle.entry.specs.declared.worth.Worth.{Worth}
 use Rattle.entry.specs.Reading.{slip_read, amount_read, tariff_brought}
@@ -61,9 +61,9 @@ Says s m text CheckDigit = (i : ℕ) → i < length text / 20 → Closes (values
 -- each group has a block
 Says s m text NoBlock = (i : ℕ) → i < length text / 20 → Blocked (values text) i
 -- the first block names a SubClass
-Says s m text OtherSubClass = (k : SubClass) × (sub_class_in (present (blocks_in text)) ≡ code k)
+Says s m text OtherSubClass = (k : SubClass) × (sub_class_in (blocks_in text) ≡ code k)
 -- the blocks are as many as it takes, and each further one names the count of blocks after it
-Says s m text WrongBlocks = (k : SubClass) × Shaped (present (blocks_in text)) k
+Says s m text WrongBlocks = (k : SubClass) × Shaped (blocks_in text) k
 -- the index can be raised, if the slip brings rate prices
 Says s m text IndexFull = (slip_read s text).subclass ≡ Rates → m.index < 65535
 -- a number of the window ends in the ten bits of the slip

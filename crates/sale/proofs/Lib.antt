@@ -1,5 +1,3 @@
-pub mod Behind
-pub mod Selling
 pub mod Sealed
 pub mod Filling
 pub mod Printed

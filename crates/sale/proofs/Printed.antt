@@ -1,11 +1,9 @@
 -- A slip as the code prints it: was_ready, writes, prints.
 use Rattle.std.proofs.Common.{◌≡◌, ℕ, ◌*◌, Bool, true, false, cond, List, length, is_some, Some, None, Option, sym, refl, ap, ◌∙◌, arith}
 use Rattle.std.proofs.lemmas.Bool.{cond-true}
-use Rattle.decimal.specs.declared.blocks.Blocks.{Blocks}
 use Rattle.decimal.specs.Slips.{writable, slip_of}
 use Rattle.sealing.specs.declared.settings.Settings.{Settings}
 use Rattle.sealing.specs.Suites.{Suite, Sound}
-use Rattle.sealing.specs.Opening.{present}
 use Rattle.sale.specs.declared.checking.Ready.{Ready}
 use Rattle.sale.specs.declared.orders.Sale.{Sale}
 use Rattle.sale.specs.Sales.{salable}
@@ -21,11 +19,11 @@ pub was_ready : (s : Settings) (sale : Sale) (ready : Ready) → Some ready ≡ 
     (salable s sale ≡ true) × (ready ≡ readied sale)
 was_ready s sale ready e = ready_when (salable s sale) sale ready e
 
-module _ (s : Suite) (o : Sound s) (number index : ℕ) (sale : Sale) (can : salable s.settings sale ≡ true) (b : Blocks) (bs : List ℕ)
-    (is : b ≡ sealed_blocks s number index sale) (there : bs ≡ present b) where
+module _ (s : Suite) (o : Sound s) (number index : ℕ) (sale : Sale) (can : salable s.settings sale ≡ true) (bs : List ℕ)
+    (is : bs ≡ sealed_blocks s number index sale) where
   able : writable bs ≡ true
   able =
-      ap writable (there ∙ ap present is) ∙ blocks_writable s number index sale (sealed s o number index sale (sold_by s.settings sale can))
+      ap writable is ∙ blocks_writable s number index sale (sealed s o number index sale (sold_by s.settings sale can))
 
   -- it can be written
   pub writes : (answer : Option ℕ) → answer ≡ cond (writable bs) (Some (20 * length bs)) None → is_some answer ≡ true
@@ -38,6 +36,6 @@ module _ (s : Suite) (o : Sound s) (number index : ℕ) (sale : Sale) (can : sal
       let z = sealed s o number index sale (sold_by s.settings sale can) in
       let long : Some n ≡ Some (20 * length bs) = sym p ∙ e ∙ cond-true (writable bs) _ _ able in
       let same : n ≡ 20 * length bs = cc in (
-        same ∙ ap (λ k. 20 * k) (ap length (there ∙ ap present is) ∙ blocks_length s number index sale z),
-        q ∙ cond-true (writable bs) _ _ able ∙ ap slip_of (there ∙ ap present is),
+        same ∙ ap (λ k. 20 * k) (ap length is ∙ blocks_length s number index sale z),
+        q ∙ cond-true (writable bs) _ _ able ∙ ap slip_of is,
       )

@@ -1,6 +1,6 @@
 -- What a sale that can be sold comes to. Its values: Sold, sold_by; its data parts: Carries, carries. Its first block: tag_below,
--- first_small, first_fits_lem, low_sold, low_fits. Its blocks as they are printed: Sealed, sealed; blocks_are, blocks_below,
--- blocks_length, blocks_few, blocks_writable.
+-- first_small, first_fits_lem, low_sold, low_fits. Its blocks as they are printed: Sealed, sealed; blocks_below, blocks_length,
+-- blocks_few, blocks_writable.
 use Rattle.std.proofs.Common.{◌≡◌, ℕ, suc, ◌+◌, ◌*◌, ◌/◌, ◌%◌, ◌^◌, ◌<◌, ◌≤◌, true, false, ◌&&◌, ◌||◌, eqb, ltb, leb, List, [], ◌∷◌, map, length, Some, None, Option, sym, refl, ap, ◌∙◌, ⊎_elim, mod-eq_of_lt, arith}
 use Rattle.std.specs.Int.Digits.{AllBelowBase}
 use Rattle.std.proofs.lemmas.Nat.{mod_below, shr_high}
@@ -27,9 +27,7 @@ use Rattle.sealing.specs.declared.settings.Settings.{Settings}
 use Rattle.sealing.specs.Messages.{index_for}
 use Rattle.sealing.specs.Messages.{nonce, message, front, tag_field}
 use Rattle.sealing.specs.Suites.{Suite, Sound, multiplier_of}
-use Rattle.sealing.specs.Opening.{present}
-use Rattle.sealing.specs.Through.{as_blocks}
-use Rattle.sealing.proofs.Walk.{few, small, present_as, low_map, low_list, low_below, map-carriable}
+use Rattle.sealing.proofs.Walk.{few, small, low_map, low_list, low_below, map-carriable}
 use Rattle.sale.specs.declared.orders.PriceList.{PriceList}
 use Rattle.sale.specs.declared.orders.Sale.{Sale}
 use Rattle.sale.specs.Sales.{fitting, priced, coded, salable, parts_at, parts_sold}
@@ -145,7 +143,7 @@ low_fits s o number index sale v =
 pub record Sealed (s : Suite) (number index : ℕ) (sale : Sale) : Type 0 where
   pub first : ℕ
   pub parts : List ℕ
-  pub are : sealed_blocks s number index sale ≡ as_blocks (first ∷ numbered parts)
+  pub are : sealed_blocks s number index sale ≡ first ∷ numbered parts
   pub below : first < 2 ^ 61
   pub names : first / 2 ^ 57 % 2 ^ 4 ≡ code (sub_class_named sale.subclass)
   pub carried : carriable parts ≡ true
@@ -181,23 +179,20 @@ numbered_below (p ∷ ps) l h =
     let low = ltb-true p (2 ^ 59) u.0 in
     (omega arith, numbered_below ps (omega arith) u.1)
 
-pub blocks_are : (s : Suite) (number index : ℕ) (sale : Sale) → (z : Sealed s number index sale) → present (sealed_blocks s number index sale) ≡ z.first ∷ numbered z.parts
-blocks_are s number index sale z = ap present z.are ∙ present_as (z.first ∷ numbered z.parts)
-
-pub blocks_below : (s : Suite) (number index : ℕ) (sale : Sale) → Sealed s number index sale → AllBelowBase (2 ^ 61) (present (sealed_blocks s number index sale))
+pub blocks_below : (s : Suite) (number index : ℕ) (sale : Sale) → Sealed s number index sale → AllBelowBase (2 ^ 61) (sealed_blocks s number index sale)
 blocks_below s number index sale z =
     let ps = z.parts in
-    rw (blocks_are s number index sale z) (z.below, numbered_below ps (few ps z.carried) (small ps z.carried))
+    rw z.are (z.below, numbered_below ps (few ps z.carried) (small ps z.carried))
 
 pub blocks_length : (s : Suite) (number index : ℕ) (sale : Sale) → Sealed s number index sale →
-    length (present (sealed_blocks s number index sale)) ≡ suc (length (parts_sold sale.prices))
-blocks_length s number index sale z = ap length (blocks_are s number index sale z) ∙ ap suc (length-numbered z.parts ∙ z.as_many)
+    length (sealed_blocks s number index sale) ≡ suc (length (parts_sold sale.prices))
+blocks_length s number index sale z = ap length z.are ∙ ap suc (length-numbered z.parts ∙ z.as_many)
 
-pub blocks_few : (s : Suite) (number index : ℕ) (sale : Sale) → Sealed s number index sale → length (present (sealed_blocks s number index sale)) ≤ 4
+pub blocks_few : (s : Suite) (number index : ℕ) (sale : Sale) → Sealed s number index sale → length (sealed_blocks s number index sale) ≤ 4
 blocks_few s number index sale z =
     omega (arith, blocks_length s number index sale z, z.as_many, few z.parts z.carried)
 
-pub blocks_writable : (s : Suite) (number index : ℕ) (sale : Sale) → Sealed s number index sale → writable (present (sealed_blocks s number index sale)) ≡ true
+pub blocks_writable : (s : Suite) (number index : ℕ) (sale : Sale) → Sealed s number index sale → writable (sealed_blocks s number index sale) ≡ true
 blocks_writable s number index sale z =
-    writable_from (present (sealed_blocks s number index sale)) (omega (arith, blocks_length s number index sale z)) (blocks_few s number index sale z)
+    writable_from (sealed_blocks s number index sale) (omega (arith, blocks_length s number index sale z)) (blocks_few s number index sale z)
     (blocks_below s number index sale z)

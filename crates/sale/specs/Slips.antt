@@ -7,13 +7,11 @@ use Rattle.token.specs.FirstBlocks.{first_widths, first_fields}
 use Rattle.token.specs.FurtherBlocks.{numbered}
 use Rattle.token.specs.SubClasses.{sub_class_named}
 use Rattle.token.specs.Widths.{packed}
-use Rattle.decimal.specs.declared.blocks.Blocks.{Blocks}
 use Rattle.decimal.specs.Slips.{text_of, slip_of}
 use Rattle.sealing.specs.Messages.{index_for}
 use Rattle.sealing.specs.Messages.{tag_field}
 use Rattle.sealing.specs.Suites.{Suite}
-use Rattle.sealing.specs.Opening.{through_low, present}
-use Rattle.sealing.specs.Through.{as_blocks}
+use Rattle.sealing.specs.Opening.{through_low}
 use Rattle.sale.specs.declared.checking.Ready.{Ready}
 use Rattle.sale.specs.declared.orders.Sale.{Sale}
 use Rattle.sale.specs.declared.printing.Printed.{Printed}
@@ -43,12 +41,12 @@ abbrev pub clear_blocks : Suite → ℕ → ℕ → Sale → List ℕ
 clear_blocks s number index sale = packed first_widths (first_fields (first_sold number sale (tag_sold s number index sale))) ∷ further_sold sale
 
 -- the blocks as they are printed: in SubClasses 8 and 10 with their low bits enciphered
-unfoldable pub sealed_blocks : Suite → ℕ → ℕ → Sale → Blocks
-sealed_blocks s number index sale = through_low s.enciphered (sub_class_named sale.subclass) (as_blocks (clear_blocks s number index sale))
+unfoldable pub sealed_blocks : Suite → ℕ → ℕ → Sale → List ℕ
+sealed_blocks s number index sale = through_low s.enciphered (sub_class_named sale.subclass) (clear_blocks s number index sale)
 
 -- the digits
 abbrev pub slip_text : Suite → ℕ → ℕ → Sale → List ℕ
-slip_text s number index sale = text_of (present (sealed_blocks s number index sale))
+slip_text s number index sale = text_of (sealed_blocks s number index sale)
 
 -- how many they are: twenty for each block
 abbrev pub slip_length : Sale → ℕ
@@ -56,11 +54,11 @@ slip_length sale = 20 * suc (length (parts_sold sale.prices))
 
 -- the eighty bytes: the digits first, the rest zero
 abbrev pub slip_for : Suite → ℕ → ℕ → Sale → List ℕ
-slip_for s number index sale = slip_of (present (sealed_blocks s number index sale))
+slip_for s number index sale = slip_of (sealed_blocks s number index sale)
 
 -- a sale that can be sold, with a place for its first block
 abbrev pub readied : Sale → Ready
-readied sale = record { subclass = sub_class_named sale.subclass; blocks = as_blocks (0 ∷ further_sold sale) }
+readied sale = record { subclass = sub_class_named sale.subclass; blocks = record { items = 0 ∷ further_sold sale } }
 
 -- the length of the text, and the SubClass
 abbrev pub printed : Sale → Printed

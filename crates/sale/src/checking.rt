@@ -1,7 +1,6 @@
 // Whether a till can sell it.
 ghost use Rattle.std.specs.Prelude.{◌≡◌, ◌^◌, ◌≤◌, true, ◌∷◌, length, if◌then◌else◌, Some, None};
 ghost use Rattle.token.specs.FurtherBlocks.{carriable, numbered};
-ghost use Rattle.sealing.specs.Through.{as_blocks};
 ghost use Rattle.sale.specs.Sales.{tariff_named, fitting, priced, coded, salable, parts_at, parts_sold};
 ghost use Rattle.sale.specs.Slips.{readied};
 
@@ -17,7 +16,7 @@ use token::tariff::Tariff;
 const MOST_AMT: u16 = 8191;
 
 // A sale that can be sold: its SubClass, and its further blocks in clear behind a place for the first.
-#[derive(Clone, Copy)]
+#[derive(Drop)]
 pub struct Ready {
     pub subclass: SubClass,
     pub blocks: Blocks,
@@ -26,18 +25,19 @@ pub struct Ready {
 // Data parts as further blocks, behind a place for the first block.
 fn behind_first(parts: &[u64]) -> Blocks
     requires { carriable parts.now ≡ true }
-    ensures { result ≡ as_blocks (0 ∷ numbered parts.now) }
+    ensures { result ≡ record { items = 0 ∷ numbered parts.now } }
 {
-    let end = parts.len() + 1;
-    let mut words = [0; 4];
-    words[1..end].copy_from_slice(parts);
-    number_parts(&mut words[1..end]);
-    Blocks { groups: end, words }
+    let mut blocks = Blocks::new();
+    blocks.push(0);
+    // Parts that can be carried are three at most.
+    blocks.try_extend_from_slice(parts).unwrap();
+    number_parts(&mut blocks[1..]);
+    blocks
 }
 
 // The blocks that rate prices take, if they can be packed.
 fn further_of(list: &PriceList) -> Option<Blocks>
-    ensures { result ≡ (if fitting (tariff_named list.now) list.now.size then Some (as_blocks (0 ∷ numbered (parts_at (tariff_named list.now) list.now.size))) else None) }
+    ensures { result ≡ (if fitting (tariff_named list.now) list.now.size then Some (record { items = 0 ∷ numbered (parts_at (tariff_named list.now) list.now.size) }) else None) }
 {
     let tariff = Tariff::new(
         list.complete,
@@ -52,7 +52,7 @@ fn further_of(list: &PriceList) -> Option<Blocks>
 
 // The blocks of a SubClass with these prices, if the two go together.
 fn blocks_for(subclass: SubClass, prices: Option<PriceList>) -> Option<Blocks>
-    ensures { result ≡ (if priced subclass prices then Some (as_blocks (0 ∷ numbered (parts_sold prices))) else None) }
+    ensures { result ≡ (if priced subclass prices then Some (record { items = 0 ∷ numbered (parts_sold prices) }) else None) }
 {
     match prices {
         Some(list) => match subclass {
@@ -74,6 +74,7 @@ fn is_coded(settings: &Settings, sale: &Sale) -> bool
 }
 
 // The sale made ready, if it can be sold.
+#[tactic(auto, unfolding(crate::specs::Sales::salable))]
 pub(crate) fn ready_for(settings: &Settings, sale: &Sale) -> Option<Ready>
     ensures { result ≡ (if salable settings.now sale.now then Some (readied sale.now) else None) }
 {

@@ -15,7 +15,7 @@ use entry::index::is_raisable;
 use refusal::Refusal;
 use sealing::opening::Opened;
 use sealing::sealer::Sealer;
-use sealing::through::{Way, low_through, present_of};
+use sealing::through::{Way, low_through};
 use token::first::FirstBlock;
 use token::subclass::SubClass;
 
@@ -33,11 +33,11 @@ fn seal<C: Cipher, A: Authenticator>(
     number: u32,
     index: u16,
     sale: &Sale,
-    ready: &Ready,
+    ready: Ready,
 ) -> Blocks
     requires salable { salable sealer.now.settings sale.now ≡ true }
-    requires readied { ready.now ≡ readied sale.now }
-    ensures { result ≡ sealed_blocks (suite_of C.enciphered C.deciphered A.tagged sealer.now) number index sale.now }
+    requires readied { ready ≡ readied sale.now }
+    ensures { result.items ≡ sealed_blocks (suite_of C.enciphered C.deciphered A.tagged sealer.now) number index sale.now }
 {
     let first = FirstBlock {
         subclass: sale.subclass,
@@ -52,14 +52,11 @@ fn seal<C: Cipher, A: Authenticator>(
         blocks: ready.blocks,
     };
     let tmac = sealer.tag_field(number, index, &bare);
+    let mut blocks = bare.blocks;
     // A sale that can be sold has no field too wide for its place.
-    let block = FirstBlock { tmac, ..first }.pack().unwrap();
-    let [_, a, b, c] = ready.blocks.words;
-    let clear = Blocks {
-        groups: ready.blocks.groups,
-        words: [block, a, b, c],
-    };
-    low_through(&sealer.cipher, Way::Encipher, ready.subclass, &clear)
+    blocks[0] = FirstBlock { tmac, ..first }.pack().unwrap();
+    low_through(&sealer.cipher, Way::Encipher, ready.subclass, &mut blocks);
+    blocks
 }
 
 // Prints the slip of a sale for a number, at the index that the till keeps: digits first, the rest zero. Refused, the bytes stay as they were.
@@ -73,17 +70,13 @@ pub fn print_slip<C: Cipher, A: Authenticator>(
     ensures answer { result ≡ checked (sale_rules sealer.now.settings index sale.now) (Ok (printed_for sale.now)) }
     ensures bytes { slip.new ≡ (if issuable sealer.now.settings index sale.now then slip_for (suite_of C.enciphered C.deciphered A.tagged sealer.now) number index sale.now else slip.old) }
 {
-    let Some(ready) = ready_for(&sealer.settings, sale) else {
-        return Err(Refusal::Sale);
-    };
-    if !is_raisable(ready.subclass, index) {
+    let ready = ready_for(&sealer.settings, sale).ok_or(Refusal::Sale)?;
+    let subclass = ready.subclass;
+    if !is_raisable(subclass, index) {
         return Err(Refusal::TillIndexFull);
     }
-    let blocks = seal(sealer, number, index, sale, &ready);
+    let blocks = seal(sealer, number, index, sale, ready);
     // One to four blocks of 61 bits can be written.
-    let length = write_blocks(present_of(&blocks), slip).unwrap();
-    Ok(Printed {
-        length,
-        subclass: ready.subclass,
-    })
+    let length = write_blocks(&blocks, slip).unwrap();
+    Ok(Printed { length, subclass })
 }

@@ -1,4 +1,3 @@
 pub mod Spelled
-pub mod Few
 pub mod Walk
 pub mod Soundness

@@ -1,10 +1,12 @@
--- The cipher over a slip as a list of blocks. Parts that can be carried are few and small: few, small; blocks in their places are
--- there: present_as. What a SubClass sends its low bits through: low_map; a slip of its first block and its data parts goes through it
--- part by part: low_list; where the map keeps the widths, the parts can be carried still: low_below, map-carriable; and what was
--- enciphered is deciphered to itself: low_back.
-use Rattle.std.proofs.Common.{◌≡◌, ℕ, ◌+◌, ◌*◌, ◌/◌, ◌%◌, ◌^◌, ◌<◌, ◌≤◌, true, ltb, leb, List, [], ◌∷◌, map, length, sym, refl, ap, ◌∙◌, arith}
+-- The cipher over a slip as a list of blocks. Blocks written in place: refilled, walked_more. Parts that can be carried are few and small: few, small. What a SubClass sends its low bits
+-- through: low_map; a slip of its first block and its data parts goes through it part by part: low_list; where the map keeps the widths,
+-- the parts can be carried still: low_below, map-carriable; and what was enciphered is deciphered to itself: low_back.
+use Rattle.std.proofs.Common.{◌≡◌, ℕ, ◌+◌, ◌*◌, ◌/◌, ◌%◌, ◌^◌, ◌<◌, ◌≤◌, true, ltb, leb, List, [], ◌∷◌, ◌++◌, map, length, get_or, take, drop, set, sym, refl, ap, ◌∙◌, arith}
 use Rattle.std.proofs.lemmas.Nat.{shr_high, mod_low}
-use Rattle.std.proofs.lemmas.List.{take_at, length-map, map-id}
+use Rattle.std.proofs.lemmas.List.{take_at, length-append, length-map, length-take, length-drop, map-id}
+use Rattle.std.proofs.lemmas.List.Edits.{map_over_more}
+use Rattle.std.proofs.lemmas.Grind.{get_or_default_zero}
+use Rattle.std.specs.List.{refill}
 use Rattle.std.proofs.lemmas.Bool.{and_parts, and_from, leb-true, le-leb, ltb-true, lt-ltb}
 use Rattle.cipher.specs.Widths.{bits}
 use Rattle.cipher.specs.declared.width.Width.{Width}
@@ -13,10 +15,20 @@ use Rattle.token.specs.declared.subclass.SubClass.{SubClass}
 use Rattle.token.specs.declared.subclass.SubClass.TheVariants.{Clear, Enciphered, Rates}
 use Rattle.token.specs.FurtherBlocks.{carriable, numbered}
 use Rattle.token.specs.Limits.{under}
-use Rattle.token.proofs.Numbered.{length-numbered}
 use Rattle.sealing.specs.Suites.{Suite, Sound}
-use Rattle.sealing.specs.Opening.{through_first, through_all, through_low, present}
-use Rattle.sealing.specs.Through.{as_blocks}
+use Rattle.sealing.specs.Opening.{through_block, through_all, through_low}
+
+-- a list of blocks that was written over as a slice is that slice
+pub refilled : (blocks slice : List ℕ) → length slice ≡ length blocks → refill (length blocks) blocks slice ≡ slice
+refilled blocks slice l = take_at slice _ (length blocks) l
+
+-- one block more is written where a loop has gone over those before it
+pub walked_more : (f : ℕ → ℕ) (old new : List ℕ) (i b : ℕ) → i < length old → new ≡ map f (take i old) ++ drop i old → b ≡ f (get_or new i 0) →
+    set new i b ≡ map f (take (i + 1) old) ++ drop (i + 1) old
+walked_more f old new i b h e w =
+    let l : i < length new = rw e (simp (length-append, length-map, length-take, length-drop) (omega arith)) in
+    let read = sym (get_or_default_zero new i (get_or new i 0) l) in
+    rw w (map_over_more f old new i (get_or new i 0) h e read)
 
 -- at most three parts, each of 59 bits
 pub few : (ps : List ℕ) → carriable ps ≡ true → length ps ≤ 3
@@ -25,30 +37,13 @@ few ps c = leb-true (length ps) 3 (and_parts (leb (length ps) 3) (under (2 ^ 59)
 pub small : (ps : List ℕ) → carriable ps ≡ true → under (2 ^ 59) ps ≡ true
 small ps c = (and_parts (leb (length ps) 3) (under (2 ^ 59) ps) c).1
 
--- blocks that were put in their places are there
-pub present_as : (bs : List ℕ) → present (as_blocks bs) ≡ bs
-present_as bs = take_at bs _ (length bs) refl
-
--- one further block, as a map goes over its low bits
-abbrev through_one : (Width → ℕ → ℕ) → ℕ → ℕ
-through_one m g = g / 2 ^ 59 * 2 ^ 59 + m Further (g % 2 ^ 59)
-
--- all blocks of a list, as a map goes over their low bits
-all_list : (m : Width → ℕ → ℕ) (f : ℕ) (gs : List ℕ) → length gs ≤ 3 →
-    through_all m (as_blocks (f ∷ gs)) ≡ as_blocks (through_first m f ∷ map (through_one m) gs)
-all_list m f [] l = refl
-all_list m f (a ∷ []) l = refl
-all_list m f (a ∷ b ∷ []) l = refl
-all_list m f (a ∷ b ∷ c ∷ []) l = refl
-all_list m f (a ∷ b ∷ c ∷ d ∷ gs) l = absurd (omega arith)
-
 -- the low bits of a number go through a map, and those above them stay
 through-bits : (f : ℕ → ℕ) (bits high low : ℕ) → low < 2 ^ bits →
     (high * 2 ^ bits + low) / 2 ^ bits * 2 ^ bits + f ((high * 2 ^ bits + low) % 2 ^ bits) ≡ high * 2 ^ bits + f low
 through-bits f bits high low h = λ i. shr_high high bits low h i * 2 ^ bits + f (mod_low high bits low h i)
 
 -- data parts go through the map, and their sequences stay
-parts-through : (m : Width → ℕ → ℕ) (ps : List ℕ) → under (2 ^ 59) ps ≡ true → map (through_one m) (numbered ps) ≡ numbered (map (m Further) ps)
+parts-through : (m : Width → ℕ → ℕ) (ps : List ℕ) → under (2 ^ 59) ps ≡ true → map (through_block m Further) (numbered ps) ≡ numbered (map (m Further) ps)
 parts-through m [] h = refl
 parts-through m (p ∷ ps) h =
     let u = and_parts (ltb p (2 ^ 59)) (under (2 ^ 59) ps) h in
@@ -65,15 +60,13 @@ low_map Enciphered m = m
 low_map Rates m = m
 
 all_through : (m : Width → ℕ → ℕ) (high low : ℕ) (ps : List ℕ) → low < 2 ^ 57 → carriable ps ≡ true →
-    through_all m (as_blocks ((high * 2 ^ 57 + low) ∷ numbered ps)) ≡ as_blocks ((high * 2 ^ 57 + m First low) ∷ numbered (map (m Further) ps))
-all_through m high low ps h c =
-    all_list m (high * 2 ^ 57 + low) (numbered ps) (omega (arith, length-numbered ps, few ps c))
-    ∙ (λ i. as_blocks (through-bits (m First) 57 high low h i ∷ parts-through m ps (small ps c) i))
+    through_all m ((high * 2 ^ 57 + low) ∷ numbered ps) ≡ (high * 2 ^ 57 + m First low) ∷ numbered (map (m Further) ps)
+all_through m high low ps h c = λ i. through-bits (m First) 57 high low h i ∷ parts-through m ps (small ps c) i
 
 -- a slip of its first block and its data parts
 pub low_list : (m : Width → ℕ → ℕ) (k : SubClass) (high low : ℕ) (ps : List ℕ) → low < 2 ^ 57 → carriable ps ≡ true →
-    through_low m k (as_blocks ((high * 2 ^ 57 + low) ∷ numbered ps)) ≡ as_blocks ((high * 2 ^ 57 + low_map k m First low) ∷ numbered (map (low_map k m Further) ps))
-low_list m Clear high low ps h c = ap (λ (qs : List ℕ). as_blocks ((high * 2 ^ 57 + low) ∷ numbered qs)) (sym (map-id ps))
+    through_low m k (((high * 2 ^ 57 + low) ∷ numbered ps)) ≡ ((high * 2 ^ 57 + low_map k m First low) ∷ numbered (map (low_map k m Further) ps))
+low_list m Clear high low ps h c = ap (λ (qs : List ℕ). ((high * 2 ^ 57 + low) ∷ numbered qs)) (sym (map-id ps))
 low_list m Enciphered high low ps h c = all_through m high low ps h c
 low_list m Rates high low ps h c = all_through m high low ps h c
 
@@ -108,11 +101,11 @@ map_undone e d b (p ∷ ps) h =
 
 -- a slip that was enciphered is deciphered to itself
 pub low_back : (s : Suite) → Sound s → (k : SubClass) (high low : ℕ) (ps : List ℕ) → low < 2 ^ 57 → carriable ps ≡ true →
-    through_low s.deciphered k (through_low s.enciphered k (as_blocks ((high * 2 ^ 57 + low) ∷ numbered ps))) ≡ as_blocks ((high * 2 ^ 57 + low) ∷ numbered ps)
+    through_low s.deciphered k (through_low s.enciphered k (((high * 2 ^ 57 + low) ∷ numbered ps))) ≡ ((high * 2 ^ 57 + low) ∷ numbered ps)
 low_back s o k high low ps h c =
     let below = low_below s.enciphered k o.below in
     let undone = low_undone s.enciphered s.deciphered k o.undone in
     let e = low_map k s.enciphered in
     ap (through_low s.deciphered k) (low_list s.enciphered k high low ps h c)
     ∙ low_list s.deciphered k high (e First low) (map (e Further) ps) (below First low h) (map-carriable (e Further) (below Further) ps c)
-    ∙ (λ i. as_blocks ((high * 2 ^ 57 + undone First low h i) ∷ numbered (map_undone (e Further) (low_map k s.deciphered Further) (undone Further) ps (small ps c) i)))
+    ∙ (λ i. ((high * 2 ^ 57 + undone First low h i) ∷ numbered (map_undone (e Further) (low_map k s.deciphered Further) (undone Further) ps (small ps c) i)))

@@ -1,26 +1,20 @@
 // The cipher over the low bits of blocks, one way for enciphering and deciphering.
-ghost use Rattle.std.specs.Prelude.{◌≡◌, ℕ, ◌%◌, ◌^◌, ◌<◌};
+ghost use Rattle.std.specs.Prelude.{◌≡◌, ℕ, ◌%◌, ◌^◌, ◌<◌, map};
 ghost use Rattle.cipher.specs.Widths.{bits};
-ghost use Rattle.sealing.specs.Opening.{through_first, through_further, through_all, through_low, present};
+ghost use Rattle.cipher.specs.declared.width.Width.TheVariants.{Further};
+ghost use Rattle.sealing.specs.Opening.{through_block, through_all, through_low};
 ghost use Rattle.sealing.specs.Through.{map_by};
 
 use cipher::Cipher;
 use cipher::width::Width;
-use decimal::blocks::Blocks;
 use token::subclass::SubClass;
 
-// Which of its two maps a cipher is asked for.
+// Which of its two maps a cipher is asked for. With a closure in its place, `low_through` would have to require that it may be
+// called, and public functions here require nothing.
 #[derive(Clone, Copy)]
 pub enum Way {
     Encipher,
     Decipher,
-}
-
-// The blocks that are there.
-pub fn present_of(blocks: &Blocks) -> &[u64]
-    ensures { result.now ≡ present blocks.now }
-{
-    &blocks.words[0..blocks.groups.min(4)]
 }
 
 fn turned<C: Cipher>(cipher: &C, way: Way, width: Width, n: u64) -> u64
@@ -33,44 +27,47 @@ fn turned<C: Cipher>(cipher: &C, way: Way, width: Width, n: u64) -> u64
     }
 }
 
-fn first_through<C: Cipher>(cipher: &C, way: Way, block: u64) -> u64
-    ensures { result ≡ through_first (map_by way (C.enciphered cipher.now) (C.deciphered cipher.now)) block }
+fn bits(width: Width) -> u32
+    ensures { result ≡ bits width }
 {
-    ((block >> 57) << 57) + turned(cipher, way, Width::First, block)
-}
-
-// The further block at a place; 0 where there is none.
-fn further_through<C: Cipher>(cipher: &C, way: Way, blocks: &Blocks, place: usize) -> u64
-    requires { place < 4 }
-    ensures { result ≡ through_further (map_by way (C.enciphered cipher.now) (C.deciphered cipher.now)) blocks.now place }
-{
-    if place >= blocks.groups {
-        return 0;
+    match width {
+        Width::First => 57,
+        Width::Further => 59,
     }
-    let block = blocks.words[place];
-    ((block >> 59) << 59) + turned(cipher, way, Width::Further, block)
 }
 
-fn all_through<C: Cipher>(cipher: &C, way: Way, blocks: &Blocks) -> Blocks
-    ensures { result ≡ through_all (map_by way (C.enciphered cipher.now) (C.deciphered cipher.now)) blocks.now }
+fn block_through<C: Cipher>(cipher: &C, way: Way, width: Width, block: u64) -> u64
+    ensures { result ≡ through_block (map_by way (C.enciphered cipher.now) (C.deciphered cipher.now)) width block }
 {
-    Blocks {
-        groups: blocks.groups,
-        words: [
-            first_through(cipher, way, blocks.words[0]),
-            further_through(cipher, way, blocks, 1),
-            further_through(cipher, way, blocks, 2),
-            further_through(cipher, way, blocks, 3),
-        ],
+    let bits = bits(width);
+    ((block >> bits) << bits) + turned(cipher, way, width, block)
+}
+
+#[tactic(auto, using(crate::proofs::Walk::walked_more))]
+fn further_through<C: Cipher>(cipher: &C, way: Way, blocks: &mut [u64])
+    ensures { blocks.new ≡ map (through_block (map_by way (C.enciphered cipher.now) (C.deciphered cipher.now)) Further) blocks.old }
+{
+    for block in blocks.iter_mut() {
+        *block = block_through(cipher, way, Width::Further, *block);
+    }
+}
+
+fn all_through<C: Cipher>(cipher: &C, way: Way, blocks: &mut [u64])
+    ensures { blocks.new ≡ through_all (map_by way (C.enciphered cipher.now) (C.deciphered cipher.now)) blocks.old }
+{
+    // By index: of what a slice pattern lends for writing, the proof knows the length alone afterwards.
+    if !blocks.is_empty() {
+        blocks[0] = block_through(cipher, way, Width::First, blocks[0]);
+        further_through(cipher, way, &mut blocks[1..]);
     }
 }
 
 // The blocks of a SubClass with their low bits enciphered or deciphered; those in clear stay as they are.
-pub fn low_through<C: Cipher>(cipher: &C, way: Way, subclass: SubClass, blocks: &Blocks) -> Blocks
-    ensures { result ≡ through_low (map_by way (C.enciphered cipher.now) (C.deciphered cipher.now)) subclass blocks.now }
+pub fn low_through<C: Cipher>(cipher: &C, way: Way, subclass: SubClass, blocks: &mut [u64])
+    ensures { blocks.new ≡ through_low (map_by way (C.enciphered cipher.now) (C.deciphered cipher.now)) subclass blocks.old }
 {
     match subclass {
-        SubClass::Clear => *blocks,
+        SubClass::Clear => {}
         SubClass::Enciphered | SubClass::Rates => all_through(cipher, way, blocks),
     }
 }

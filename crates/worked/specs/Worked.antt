@@ -8,7 +8,6 @@ use Rattle.decimal.specs.CheckDigits.{check_digit}
 use Rattle.decimal.specs.Groups.{blocks_in, blocks_of}
 use Rattle.window.specs.Recovery.{recovered}
 use Rattle.record.specs.declared.Record.{Record}
-use Rattle.sealing.specs.Opening.{present}
 use Rattle.entry.specs.Rules.{digit_rules, shape_rules}
 use Rattle.meter.specs.Answering.{taking}
 use Rattle.worked.specs.Bench.{blank, entered, leaves}
@@ -31,11 +30,11 @@ pub record WorkedSlips : Type 0 where
   -- the check digit of the group after it, whose digits have the 1 in front
   pub second_check_digit : check_digit (values (codes "10166099218669395579")) ≡ 2
   -- both groups as one entry keep the rules of digits and of blocks, which are the first six
-  pub two_groups : AllKept (digit_rules two_group_slip ++ shape_rules (present (blocks_in two_group_slip)))
+  pub two_groups : AllKept (digit_rules two_group_slip ++ shape_rules (blocks_in two_group_slip))
   -- the number 7394156990786306047 of a first group has no block, one more has block 0; each stands before its check digit
   pub lowest_number :
       map blocks_of (codes "73941569907863060471" ∷ codes "73941569907863060483" ∷ [])
-      ≡ Err NoBlock ∷ Ok (record { groups = 1; words = 0 ∷ 0 ∷ 0 ∷ 0 ∷ [] }) ∷ []
+      ≡ Err NoBlock ∷ Ok (record { items = 0 ∷ [] }) ∷ []
   -- nothing is counted: the window is from 1 to 128
   pub new_window : map (stands_for 0) (1 ∷ 128 ∷ 0 ∷ 129 ∷ []) ≡ Ok 1 ∷ Ok 128 ∷ Err OutsideWindow ∷ Err OutsideWindow ∷ []
   -- 1024 is the highest number counted: the window is from 898 to 1152, whose low ten bits are 128

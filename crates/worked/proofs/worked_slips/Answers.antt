@@ -1,6 +1,6 @@
 use Rattle.std.proofs.Common.{refl}
 use Rattle.decimal.specs.CheckDigits.{product, mapped, passes, running, whole, check_digit}
-use Rattle.decimal.specs.Groups.{sealed_at, number_at, has_block, grouped, all_digits, all_sealed, all_blocks, words_in, blocks_of}
+use Rattle.decimal.specs.Groups.{sealed_at, number_at, has_block, grouped, all_digits, all_sealed, all_blocks, blocks_in, blocks_of}
 use Rattle.window.specs.Bits.{bit, bits_of}
 use Rattle.window.specs.Recovery.{number_for, in_reach}
 use Rattle.window.specs.Marks.{marked, with_mark, counted}
@@ -12,7 +12,7 @@ use Rattle.entry.specs.Judging.{judged}
 use Rattle.worked.proofs.worked_slips.Goals as goal
 
 pub returns : goal.returns
-unfolding product mapped passes running whole check_digit sealed_at number_at has_block grouped all_digits all_sealed all_blocks words_in blocks_of bit bits_of number_for in_reach marked with_mark counted byte_sum nonce head message tag_field slip_read authentic judged
+unfolding product mapped passes running whole check_digit sealed_at number_at has_block grouped all_digits all_sealed all_blocks blocks_in blocks_of bit bits_of number_for in_reach marked with_mark counted byte_sum nonce head message tag_field slip_read authentic judged
 returns c = record {
   first_check_digit = refl;
   second_check_digit = refl;

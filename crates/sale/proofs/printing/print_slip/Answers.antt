@@ -1,4 +1,5 @@
 use Rattle.std.proofs.Common.{◌≡◌, true, cond, ◌&&◌, Ok, sym, ap, ◌∙◌}
+use Rattle.std.specs.Result.{result_ok}
 use Rattle.refusal.specs.Checks.{provided}
 use Rattle.refusal.specs.declared.Refusal.TheVariants.{Sale as NoSale, TillIndexFull}
 use Rattle.token.specs.SubClasses.{sub_class_named}
@@ -19,9 +20,10 @@ pub unwrap-length-requires : goal.unwrap-length-requires
 unwrap-length-requires g c =
     let s = c.args.sealer.now.settings in
     let sale = c.args.sale.now in
-    let ready = was_ready s sale c.in-Some.ready c.in-Some.ensures in
+    let some = c.ok_or.ensures.ok_part ∙ ap result_ok c.in_ok-ready.was in
+    let ready = was_ready s sale c.in_ok-ready.ready (sym some ∙ c.ready_for.ensures) in
     writes _ (keeps g c.args.sealer.now) c.args.number c.args.index sale ready.0
-    c.seal-blocks.result c.present_of.result.now c.seal-blocks.ensures c.present_of.ensures c.write_blocks.result c.write_blocks.ensures.answer
+    c.deref.result.now (c.deref.ensures.0 ∙ c.seal-blocks.ensures) c.write_blocks.result c.write_blocks.ensures.answer
 
 pub returns : goal.returns
 returns g c =
@@ -29,11 +31,12 @@ returns g c =
     let sale = c.args.sale.now in
     let index = c.args.index in
     let agreed = suite_of g.C.Cipher.enciphered g.C.Cipher.deciphered g.A.Authenticator.tagged c.args.sealer.now in
-    let ready = was_ready s sale c.in-Some.ready c.in-Some.ensures in
-    let k : c.in-Some.ready.subclass ≡ sub_class_named sale.subclass = ap (λ (r : Ready). r.subclass) ready.1 in
+    let some = c.ok_or.ensures.ok_part ∙ ap result_ok c.in_ok-ready.was in
+    let ready = was_ready s sale c.in_ok-ready.ready (sym some ∙ c.ready_for.ensures) in
+    let k : c.in_ok-ready.ready.subclass ≡ sub_class_named sale.subclass = ap (λ (r : Ready). r.subclass) ready.1 in
     let up : raisable (sub_class_named sale.subclass) index ≡ true = ap (λ x. raisable x index) (sym k) ∙ sym c.if-not-is_raisable.ensures in
     let out = prints agreed (keeps g c.args.sealer.now) c.args.number index sale ready.0
-    c.seal-blocks.result c.present_of.result.now c.seal-blocks.ensures c.present_of.ensures c.write_blocks.result c.unwrap-length.result
+    c.deref.result.now (c.deref.ensures.0 ∙ c.seal-blocks.ensures) c.write_blocks.result c.unwrap-length.result
     c.args.slip.now c.write_blocks.new.slip c.write_blocks.ensures.answer c.unwrap-length.ensures c.write_blocks.ensures.bytes in
     record {
       answer = λ i. provided (sym ready.0 i) NoSale (provided (sym up i) TillIndexFull (Ok (record { length = out.0 i; subclass = k i })));
