@@ -8,19 +8,9 @@ use anyhow::anyhow;
 use day::{Bench, Day};
 use layers::length::Length;
 use piles::{Supply, days_over, show_length};
-use sealing::settings::{SettingValues, Settings};
 use std::io::{BufRead, BufReader};
 use store::PlainStore;
-
-fn bench_settings() -> anyhow::Result<Settings> {
-    Settings::new(SettingValues {
-        supplier: 1,
-        meter: 2,
-        multipliers: [1, 10, 100, 1000],
-        ceiling: 3400,
-    })
-    .map_err(|_| anyhow!("the settings are outside their limits"))
-}
+use worked::bench::bench_settings;
 
 fn supply_of(image: u32, below: u32, k: u8) -> anyhow::Result<Supply> {
     let length = Length::new(k).map_err(|_| anyhow!("the length is outside its limits"))?;
@@ -75,7 +65,7 @@ fn show(rt: &HostRuntime) -> anyhow::Result<()> {
     }
     let bench = Bench {
         heap,
-        settings: bench_settings()?,
+        settings: bench_settings(),
         lines: &lines,
     };
     let plain = bench.day_over(PlainStore::blank())?;

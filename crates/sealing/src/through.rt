@@ -27,19 +27,10 @@ fn turned<C: Cipher>(cipher: &C, way: Way, width: Width, n: u64) -> u64
     }
 }
 
-fn bits(width: Width) -> u32
-    ensures { result ≡ bits width }
-{
-    match width {
-        Width::First => 57,
-        Width::Further => 59,
-    }
-}
-
 fn block_through<C: Cipher>(cipher: &C, way: Way, width: Width, block: u64) -> u64
     ensures { result ≡ through_block (map_by way (C.enciphered cipher.now) (C.deciphered cipher.now)) width block }
 {
-    let bits = bits(width);
+    let bits = width.bits();
     ((block >> bits) << bits) + turned(cipher, way, width, block)
 }
 
