@@ -73,7 +73,8 @@ fn issue(number: u32, subclass: u8, config: u8, amt: u16, prices: Option<PriceLi
     Call::Issue(Order { number, sale })
 }
 
-// The call that a deed is, where the journal so far has these lines. None where no slip was issued that could be keyed in.
+// The call that a deed is, where the journal so far has these lines. None where no slip was issued that could be keyed in: that is no
+// error of a result, so a let-else tells it and no `?`.
 pub(crate) fn call_of(deed: &Deed, lines: &[Line], heap: Global) -> Result<Option<Call>, AllocError>
     ensures { IfOk result (λ call. asks call ≡ wanted deed.now lines.now) }
 {

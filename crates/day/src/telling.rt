@@ -21,10 +21,10 @@ fn write_order<W: fmt::Write>(order: &Order, f: &mut fmt::Formatter<W>) -> fmt::
     let sale = &order.sale;
     write!(f, "issue of {}, SubClass {}", order.number, sale.subclass)?;
     write!(f, ", AMTConfig {}, AMT {}", sale.config, sale.amt)?;
-    match sale.prices {
-        Some(list) => write!(f, ", {} prices", list.count),
-        None => Ok(()),
+    if let Some(list) = sale.prices {
+        write!(f, ", {} prices", list.count)?;
     }
+    Ok(())
 }
 
 // What was asked, in a few words.

@@ -66,9 +66,9 @@ fn serve(rt: &HostRuntime) -> anyhow::Result<()> {
     let mut ledger = open_bench(heap);
     rt.println("slipbench")?;
     for line in BufReader::new(heap, rt.stdin())?.split(heap, b'\n') {
-        let Ok(text) = reply(&mut ledger, &line?, heap) else {
-            return Err(anyhow!("no memory is left for the journal"));
-        };
+        let text = reply(&mut ledger, &line?, heap).map_err(|_| anyhow!(
+            "no memory is left for the journal"
+        ))?;
         rt.println(text)?;
     }
     Ok(())

@@ -19,6 +19,7 @@ pub fn void_all<C, A>(till: &mut Till<C, A>, mut hand: Vec<DrawnNumber>)
 {
     // What the till answers fits its width; nothing else says so of a field behind a `&mut`.
     let _before = till.counts().voids();
+    // By `pop`, as std makes an iterator only of what can be let go.
     while let Some(drawn) = hand.pop() {
         till.void(drawn);
     }
