@@ -38,16 +38,18 @@ fn tariff_digest(digest: u64, tariff: Tariff) -> u64 {
 // A number for all that an image tells.
 fn digest_of(digest: u64, image: Image) -> u64 {
     let kept = image.kept;
-    let mut d = mixed(digest, u64::from(kept.credit));
-    d = mixed(d, u64::from(kept.window.highest()));
     let marks = kept.window.marks();
-    d = mixed(d, (marks >> 64) as u64);
-    d = mixed(d, (marks % 18_446_744_073_709_551_616) as u64);
-    d = mixed(d, u64::from(kept.index));
-    d = match kept.tariff {
-        Some(tariff) => tariff_digest(d, tariff),
-        None => mixed(d, 0),
-    };
+    let parts = [
+        u64::from(kept.credit),
+        u64::from(kept.window.highest()),
+        (marks >> 64) as u64,
+        (marks % 18_446_744_073_709_551_616) as u64,
+        u64::from(kept.index),
+    ];
+    let d = parts.into_iter().fold(digest, mixed);
+    let d = kept
+        .tariff
+        .map_or_else(|| mixed(d, 0), |tariff| tariff_digest(d, tariff));
     mixed(d, u64::from(image.writes))
 }
 
@@ -80,11 +82,12 @@ fn damaged_at(memory: &mut [u8], at: usize) -> Found {
 
 fn show_each(rt: &HostRuntime, memory: &mut [u8]) -> anyhow::Result<()> {
     for at in 0..SIZE {
-        let found = damaged_at(memory, at);
-        let ill_formed = found.ill_formed;
-        let told = found.told;
-        let mistaken = found.mistaken;
-        let digest = found.digest;
+        let Found {
+            ill_formed,
+            told,
+            mistaken,
+            digest,
+        } = damaged_at(memory, at);
         println!(rt;
             "byte {at}: {ill_formed} ill-formed, {told} told, {mistaken} mistaken, digest {digest}"
         )?;

@@ -36,9 +36,8 @@ fn number(parts: &mut [u64])
     }
 }
 
-// A flag and no Result, as a caller whose parts can be carried has nothing to read in an error.
 // Turns data parts into the further blocks that carry them. False, and nothing is changed, where there are more than three or
-// one has more than 59 bits.
+// one has more than 59 bits. A bool and no Result: a caller whose parts can be carried would have an error to drop.
 pub fn number_parts(parts: &mut [u64]) -> bool
     ensures taken { result ≡ carriable parts.old }
     ensures value { parts.new ≡ (if carriable parts.old then numbered parts.old else parts.old) }

@@ -4,13 +4,10 @@ use native.Mathlib.Nat.{div-eq_of_lt, mul-mod_left}
 use lib.Bits.{bit_or}
 use lib.Pow.{mod-mod-pow}
 use Rattle.std.proofs.lemmas.Nat.{field_of, shr-shr, shl-shr, or_shr, or_mod, pow_pos, pow_below, one_shl, or_lt}
+use Rattle.std.proofs.Math.Bool.{and-false}
 use Rattle.std.proofs.lemmas.Bool.{eq-eqb, ne_eqb, lt-ltb, le-ltb, cases_order, cases_lt}
 use Rattle.std.proofs.lemmas.Bool.Decides.{nat_tests}
 use Rattle.window.specs.Bits.{bit}
-
-and_false : (b : Bool) → false ≡ (b && false)
-and_false true = refl
-and_false false = refl
 
 -- a remainder has the low bits
 pub bit_mod : (n d i : ℕ) → i < d → bit (n % 2 ^ d) i ≡ bit n i
@@ -120,4 +117,4 @@ pub dropped_bits : (n by i : ℕ) (also : Bool) → 126 < by → i < 126 → bit
 dropped_bits n by i also p h =
     let t : ltb i by ≡ true = lt-ltb i by (omega arith) in
     let e : eqb (i + 1) by ≡ false = ne_eqb (i + 1) by (λ q. omega arith) in
-    bit_none i ∙ rw (t, e) (and_false also)
+    bit_none i ∙ rw (t, e) (sym (and-false also))
