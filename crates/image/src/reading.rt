@@ -63,8 +63,8 @@ fn writes_field<'a>(bytes: &'a [u8]) -> Option<&'a [u8]>
     Some(writes)
 }
 
-#[tactic(auto, using(crate::proofs::Numbers::be_two, crate::proofs::Numbers::be_four, crate::proofs::Numbers::be_sixteen))]
 // The record that the fields of a record tell. None where a mark or the tariff is outside its limits.
+#[tactic(auto, using(crate::proofs::Numbers::be_two, crate::proofs::Numbers::be_four, crate::proofs::Numbers::be_sixteen))]
 fn record_in(fields: RecordFields<'_>) -> Option<Record>
     requires { Widths fields }
     ensures { result ≡ record_in (values_of fields.entry) }
