@@ -73,6 +73,7 @@ fn four_bits(key: u128, n: u128) -> u128
 
 impl HashKey {
     // Computes the products with four bits.
+    #[tactic(auto, using(crate::proofs::Horner::made))]
     pub fn new(key: u128) -> HashKey
         ensures { result ≡ hash_for key }
     {
