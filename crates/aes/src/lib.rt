@@ -17,6 +17,7 @@ pub use state::Aes128;
 
 impl Aes128 {
     // Expands the key.
+    #[tactic(auto, using(crate::proofs::Expanding::made))]
     pub fn new(key: &[u8; 16]) -> Aes128
         ensures { result ≡ aes_for key.now }
     {

@@ -16,6 +16,7 @@ pub(crate) fn times_x(a: u8) -> u8
 }
 
 // A column turned up by one row, substituted, with the round constant in its first row.
+#[tactic(auto, using(crate::proofs::Xors::alike, crate::proofs::Xors::joined_bytes))]
 fn turned(column: u32, constant: u8) -> u32
     ensures { Turned result column constant }
 {

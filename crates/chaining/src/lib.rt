@@ -20,6 +20,7 @@ pub trait BlockMap {
 impl BlockMap for Aes128 {
     ghost mapped = { λ a. aes_block (key_of a) };
 
+    #[tactic(auto, using(crate::proofs::Numbers::number_is), unfolding(crate::specs::Blocks::aes_block))]
     fn apply(&self, block: u128) -> u128 {
         u128::from_be_bytes(self.encrypt(&block.to_be_bytes()))
     }

@@ -39,6 +39,7 @@ fn take_away(a: u64, y: u128, m: u64) -> u64
 
 impl Network<'_> {
     // The number of a round, from its index and the half that stays.
+    #[tactic(auto, using(crate::proofs::Rounding::round_is))]
     fn round_number(&self, i: u32, half: u64) -> u128
         requires round { i < 10 }
         requires spelled { half < 256 ^ self.now.rounds.now.sizes.bytes }

@@ -28,6 +28,7 @@ impl Numerals {
     }
 
     // The blocks of a round that are the same in every round: all before the last are chained, and the tweak's part of the last is added.
+    #[tactic(auto, using(crate::proofs::Heading::mask_is))]
     fn mask(&self, aes: &Aes128, tweak: &[u8]) -> u128
         requires { length tweak.now ≤ 255 }
         ensures { result ≡ mask_of self.now.radix self.now.digits (key_of aes.now) tweak.now }

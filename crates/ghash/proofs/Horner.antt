@@ -1,8 +1,9 @@
 -- Products by Horner's rule, bit by bit and four bits at a time; the laws of the product; the table of folded bits.
-use Rattle.std.proofs.Common.{◌≡◌, ℕ, zero, suc, ◌+◌, ◌-◌, ◌*◌, ◌/◌, ◌%◌, ◌^◌, ◌<◌, ◌≤◌, Bool, eqb, List, [], ◌∷◌, get_or, replicate, sym, refl, ap, ◌∙◌, subst, ap₂, suc-add, one-mul, zero-add, zero-mul, arith, eqb→eq, shr-shr}
+use Rattle.std.proofs.Common.{◌≡◌, ℕ, zero, suc, ◌+◌, ◌-◌, ◌*◌, ◌/◌, ◌%◌, ◌^◌, ◌<◌, ◌≤◌, Bool, eqb, List, [], ◌∷◌, length, get_or, fold, replicate, IfSome, slice_get, sym, refl, ap, ◌∙◌, subst, ap₂, suc-add, one-mul, zero-add, zero-mul, arith, eqb→eq, shr-shr}
 use mathlib.Core.Path.{Cosingl, contract'}
 use lib.Bits.{bit_xor, xor_shr, xor_mod, xor_assoc, xor_comm, xor_zero_l, xor_zero_r, xor_self, xor_shifted}
 use Rattle.std.proofs.lemmas.List.FromFn.{get_or-map-range_with_len}
+use Rattle.std.proofs.lemmas.Option.{IfSome_then}
 use Rattle.aes.proofs.Table.{at, computed}
 use Rattle.ghash.specs.Ghash.{times_x, product_from, product, Multiplies}
 use Rattle.ghash.specs.Folding.{times_xs, times_x4}
@@ -106,13 +107,6 @@ four_more i a v z e =
     ap₂ (λ (m n : ℕ). bit_xor (times_x4 m) n) e (by_horner 4 (y % 16) v 0 ∙ xor_zero_l (horner 4 (y % 16) v) ∙ horner_low y v)
     ∙ xor_comm (times_x4 (horner (4 * i) a v)) (horner 4 y v)
     ∙ sym (ap (λ (n : ℕ). horner n a v) (let e : 4 * (i + 1) ≡ 4 + 4 * i = omega arith in e) ∙ horner_split 4 (4 * i) a v)
-
-pub horner_none : (a v : ℕ) → 0 ≡ horner (4 * 0) a v
-unfolding horner
-horner_none a v = refl
-
-pub horner_all : (i a v z : ℕ) → i ≡ 32 → z ≡ horner (4 * i) a v → z ≡ product a v
-horner_all i a v z h e = e ∙ ap (λ (n : ℕ). horner (4 * n) a v) h ∙ sym (product_horner a v)
 
 -- ---- four products with x at once
 
@@ -224,6 +218,32 @@ pub product_at : (key : ℕ) (ps : List ℕ) (n : ℕ) → n < 16 → ps ≡ pro
 unfolding products_of
 product_at key ps n h e =
     ap (λ (xs : List ℕ). get_or xs n 0) e ∙ get_or-map-range_with_len (λ m. product_from 4 m key 0) 0 16 n n 0 h (omega arith)
+
+-- a fold over the places of four bits in turn, from the place j on
+module _ (a v : ℕ) (ps : List ℕ) (e : ps ≡ products_of v) where
+  abbrev pub turn : ℕ → ℕ → ℕ
+  turn z i = bit_xor (times_x4 z) (get_or ps (a / 2 ^ (4 * i) % 16) 0)
+
+  turned : (j z x : ℕ) → x ≡ j → z ≡ horner (4 * j) a v → turn z x ≡ horner (4 * (j + 1)) a v
+  turned j z x ex ez =
+      let small : a / 2 ^ (4 * j) % 16 < 16 = omega arith in
+      ap (turn z) ex ∙ ap (bit_xor (times_x4 z)) (product_at v ps (a / 2 ^ (4 * j) % 16) small e) ∙ four_more j a v z ez
+
+  folded_on : (is : List ℕ) (j z : ℕ) → ((k : ℕ) → IfSome (slice_get is k) (λ x. x ≡ j + k)) → z ≡ horner (4 * j) a v
+      → fold turn z is ≡ horner (4 * (j + length is)) a v
+  folded_on [] j z h ez = ez ∙ ap (λ (n : ℕ). horner (4 * n) a v) (let f : j ≡ j + 0 = omega arith in f)
+  folded_on (x ∷ is) j z h ez =
+      let first : x ≡ j = h 0 ∙ (omega arith) in
+      folded_on is (j + 1) (turn z x)
+      (λ k. IfSome_then (slice_get is k) (h (suc k)) (λ y g. g ∙ (let f : j + suc k ≡ j + 1 + k = omega arith in f)))
+      (turned j z x first ez)
+      ∙ ap (λ (n : ℕ). horner (4 * n) a v) (let f : j + 1 + length is ≡ j + suc (length is) = omega arith in f)
+
+  -- and over all 32 of them
+  pub fold_is : (is : List ℕ) → length is ≡ 32 → ((k : ℕ) → IfSome (slice_get is k) (λ x. x ≡ 0 + k)) → fold turn 0 is ≡ product a v
+  unfolding horner
+  fold_is is l h =
+      folded_on is 0 0 h refl ∙ ap (λ (n : ℕ). horner (4 * n) a v) (let f : 0 + length is ≡ 32 = omega arith in f) ∙ sym (product_horner a v)
 
 -- one bit more, where p are left
 pub bit_more : (n v z p G : ℕ) → 0 < p → product_from p n v z ≡ G → product_from (p - 1) n (times_x v) (bit_xor z (n / 2 ^ (p - 1) % 2 * v)) ≡ G

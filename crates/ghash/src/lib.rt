@@ -73,6 +73,7 @@ fn four_bits(key: u128, n: u128) -> u128
 
 impl HashKey {
     // Computes the products with four bits.
+    #[tactic(auto, using(crate::proofs::Horner::made))]
     pub fn new(key: u128) -> HashKey
         ensures { result ≡ hash_for key }
     {
@@ -86,12 +87,9 @@ impl BlockMap for HashKey {
     ghost mapped = { times };
 
     fn apply(&self, block: u128) -> u128 {
-        let mut z = 0;
-        // Over the bytes of the block, each as two times four bits, a tag of GMAC took 607 ns in the place of 484.
-        for i in 0..32u32 {
+        (0..32u32).fold(0, |z, i| {
             let bits = (block >> (4 * i)) % 16;
-            z = times_x4(z) ^ self.products[bits as usize];
-        }
-        z
+            times_x4(z) ^ self.products[bits as usize]
+        })
     }
 }

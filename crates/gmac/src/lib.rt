@@ -16,6 +16,7 @@ use ghash::HashKey;
 pub use state::Gmac;
 
 // The nonce and a counter that is 1, as a block.
+#[tactic(auto, using(crate::proofs::Tagging::room, crate::proofs::Tagging::counter_is))]
 fn first_counter(nonce: &[u8; 12]) -> u128
     ensures { result ≡ first_counter nonce.now }
 {

@@ -3,7 +3,7 @@ use Rattle.aes.specs.Aes.{round_key, round_constant}
 use Rattle.aes.specs.Words.{packed}
 use Rattle.aes.specs.Expansion.{expanded}
 use Rattle.aes.proofs.Fill.{filled_more, filled_all}
-use Rattle.aes.proofs.Expanding.{key_step, constant_step, words_are, made}
+use Rattle.aes.proofs.Expanding.{key_step, constant_step, words_are}
 use Rattle.aes.proofs.state.Aes128.new.Goals as goal
 
 pub loop-round_key-init : goal.loop-round_key-init
@@ -30,6 +30,3 @@ loop-round_key-preserved c =
 pub invariant_of-result : goal.invariant_of-result
 unfolding expanded
 invariant_of-result c = record { kept = filled_all (λ n. packed (round_key c.args.key.now n)) [] 11 _ c.loop-round_key.round_key-index (omega arith) c.loop-round_key.invariant.0 }
-
-pub returns : goal.returns
-returns c = made _ _ _
