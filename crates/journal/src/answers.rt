@@ -32,6 +32,7 @@ pub enum Answer {
     Refused(Refusal),
 }
 
+// As at a meter alone, a conversion for each kind of success.
 impl From<Result<Taken, Refusal>> for Answer {
     ghost from_gives = { λ entered answer. answer ≡ entry_answer entered };
 

@@ -27,6 +27,7 @@ pub enum Answer {
     Refused(Refusal),
 }
 
+// A conversion for each kind of success: one over both would need a third type that tells them apart, and that is the answer itself.
 impl From<Result<Taken, Refusal>> for Answer {
     ghost from_gives = { λ entered answer. answer ≡ entry_answer entered };
 

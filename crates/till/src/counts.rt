@@ -52,6 +52,7 @@ impl Counts {
         Ok(self.draws)
     }
 
+    // A method for each count, as for each getter: one for both would ask its caller which.
     pub(crate) fn issue(&mut self)
         ensures { self.new ≡ after_issue self.old }
     {
