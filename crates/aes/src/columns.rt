@@ -127,16 +127,8 @@ pub(crate) fn load(block: &[u8; 16]) -> [u32; 4]
 }
 
 // Columns as a block.
-// Sixteen names: a row of four rows of bytes is a slice of sixteen by a method, and no array.
 pub(crate) fn store(s: &[u32; 4]) -> [u8; 16]
     ensures { result ≡ unpacked s.now }
 {
-    let [a, b, c, d] = *s;
-    let [a0, a1, a2, a3] = a.to_be_bytes();
-    let [b0, b1, b2, b3] = b.to_be_bytes();
-    let [c0, c1, c2, c3] = c.to_be_bytes();
-    let [d0, d1, d2, d3] = d.to_be_bytes();
-    [
-        a0, a1, a2, a3, b0, b1, b2, b3, c0, c1, c2, c3, d0, d1, d2, d3,
-    ]
+    array::from_fn(|i| s[i / 4].to_be_bytes()[i % 4])
 }
