@@ -26,7 +26,7 @@ impl BlockMap for Aes128 {
     }
 }
 
-// The byte at a place, and zero past the end.
+// The byte at a place, and zero past the end. A line of std's methods; `token` has one for its words.
 pub fn byte_at(bytes: &[u8], i: usize) -> u8
     ensures { result ≡ slice_index bytes.now i }
 {

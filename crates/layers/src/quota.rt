@@ -23,7 +23,7 @@ impl<S> WriteQuota<S> {
 }
 
 impl<S: Store> WriteQuota<S> {
-    // The store below, as it is.
+    // The store below, as it is. Each layer gives it back for itself: they have nothing else in common that a trait could say.
     pub fn into_below(self) -> S
         ensures { result ≡ self.below }
     {
