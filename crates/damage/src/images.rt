@@ -81,6 +81,7 @@ fn damaged_at(memory: &mut [u8], at: usize) -> Found {
 }
 
 fn show_each(rt: &HostRuntime, memory: &mut [u8]) -> anyhow::Result<()> {
+    // The place is printed, and the byte there is changed, not read.
     for at in 0..SIZE {
         let Found {
             ill_formed,

@@ -53,7 +53,7 @@ pub fn encipher_numerals(
     Some(network.forth(network.reduced(n)))
 }
 
-// Takes `encipher_numerals` back.
+// Takes `encipher_numerals` back. Two functions, as callers mean the one or the other: one for both would be told which.
 pub fn decipher_numerals(
     aes: &Aes128,
     radix: u32,

@@ -60,6 +60,7 @@ impl Network<'_> {
         let n = self.rounds.sizes.right;
         let mut p = left;
         let mut q = right;
+        // The index is the rounds' own number, and reaches no element.
         for j in 0..5u32 {
             p = add(p, self.round_number(2 * j, q), m);
             q = add(q, self.round_number(2 * j + 1, p), n);
@@ -67,7 +68,7 @@ impl Network<'_> {
         (p, q)
     }
 
-    // The ten rounds taken back, two at a time.
+    // The ten rounds taken back, two at a time: other steps in the other order, so no one function has both.
     fn ten_back(&self, left: u64, right: u64) -> (u64, u64)
         requires { Within self.now.rounds.now.sizes (left, right) }
         ensures bound { Within self.now.rounds.now.sizes (result.0, result.1) }
@@ -122,7 +123,7 @@ impl Network<'_> {
         self.whole(c, d)
     }
 
-    // A number through the ten rounds taken back.
+    // A number through the ten rounds taken back. Beside `forth` and not one with it: a parameter would only say which of the two is meant.
     pub(crate) fn back(&self, x: u128) -> u128
         requires { x < self.now.rounds.now.sizes.left * self.now.rounds.now.sizes.right }
         ensures value { result ≡ back_through (key_of self.now.aes.now) self.now.rounds.now x }

@@ -64,6 +64,7 @@ fn four_bits(key: u128, n: u128) -> u128
 {
     let mut v = key;
     let mut z = 0;
+    // The place of the bit in the number, and of no element.
     for place in (0..4u32).rev() {
         z ^= ((n >> place) % 2) * v;
         v = times_x(v);

@@ -37,6 +37,7 @@ fn show_columns(rt: &HostRuntime, plain: &String, days: &[Day], at: usize) -> an
 }
 
 fn show_answers(rt: &HostRuntime, plain: &Day, many: &[Day], few: &[Day]) -> anyhow::Result<()> {
+    // The place finds the answers of the other days.
     for (at, answer) in plain.answers.iter().enumerate() {
         rt.print(answer)?;
         show_columns(rt, answer, many, at)?;
