@@ -53,7 +53,7 @@ pub fn encipher_numerals(
     Some(network.forth(network.reduced(n)))
 }
 
-// Takes `encipher_numerals` back. Two functions, as callers mean the one or the other: one for both would be told which.
+// Takes `encipher_numerals` back. The inverse map: one function for both would pass the direction and its contract along.
 pub fn decipher_numerals(
     aes: &Aes128,
     radix: u32,

@@ -68,7 +68,8 @@ impl Network<'_> {
         (p, q)
     }
 
-    // The ten rounds taken back, two at a time: other steps in the other order, so no one function has both.
+    // The ten rounds taken back, two at a time. No closure for both directions: each takes the halves in another order, and their contracts
+    // cite different maps.
     fn ten_back(&self, left: u64, right: u64) -> (u64, u64)
         requires { Within self.now.rounds.now.sizes (left, right) }
         ensures bound { Within self.now.rounds.now.sizes (result.0, result.1) }

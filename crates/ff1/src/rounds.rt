@@ -15,7 +15,7 @@ pub struct Rounds {
     pub(crate) mask: u128,
 }
 
-// For the two widths of a cipher.
+// For the two widths of a cipher. Named, as an array would want a number for a width.
 #[derive(Clone, Copy)]
 pub struct Prepared {
     pub(crate) first: Rounds,
