@@ -3,7 +3,6 @@
 use Rattle.std.specs.Prelude.{◌≡◌, ℕ, ◌+◌, min, Bool, true, false, cond, List, [], ◌∷◌, Ok, Err, vec_items, Result}
 use Rattle.refusal.specs.Checks.{checked}
 use Rattle.refusal.specs.declared.Refusal.{Refusal}
-use Rattle.record.specs.declared.Record.{Record}
 use Rattle.sealing.specs.Suites.{Suite}
 use Rattle.entry.specs.Judging.{judged}
 use Rattle.meter.specs.Answering.{taking, spend_judged, spending}

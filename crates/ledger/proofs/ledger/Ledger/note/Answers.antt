@@ -28,5 +28,5 @@ returns-clause-lawful g c =
     let did : Performed (agreed g m) c.args.call x (kept m.parts.store) (writes m.parts.store) (kept last.parts.store) (writes last.parts.store) =
     subst (λ n. Performed (agreed g m) c.args.call x (kept m.parts.store) (writes m.parts.store) (kept n.parts.store) (writes n.parts.store)) (sym asked) c.perform_at-answer.ensures.did in
     λ before new.
-        continued (agreed g m) (agreed g last) _ _ (vec_items c.args.self.now.lines) _ (kept m.parts.store) (writes m.parts.store) c.args.call x _ (writes last.parts.store)
-        (ap (agreed g) only) noted did (before new)
+    continued (agreed g m) (agreed g last) _ _ (vec_items c.args.self.now.lines) _ (kept m.parts.store) (writes m.parts.store) c.args.call x _ (writes last.parts.store)
+    (ap (agreed g) only) noted did (before new)
