@@ -9,7 +9,7 @@ use refusal::Refusal;
 const LONGEST: u8 = 64;
 
 impl Length {
-    // Refuses 0, and more than 64.
+    // Refuses 0, and more than 64. It is named as what makes a length, and no `TryFrom`, where a caller would have to look up what is tried.
     pub fn new(value: u8) -> Result<Length, Refusal>
         ensures { result ≡ length_of value }
     {

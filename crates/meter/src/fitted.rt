@@ -15,6 +15,7 @@ pub struct FittedMeter<S, C, A> {
 }
 
 impl<S, C, A> FittedMeter<S, C, A> {
+    // Settings, cipher and authenticator one by one, as a fitter brings them; from here on they are one sealer.
     pub fn fit(settings: Settings, store: S, cipher: C, authenticator: A) -> FittedMeter<S, C, A>
         ensures { result ≡ fitted_with settings store cipher authenticator }
     {

@@ -8,7 +8,7 @@ pub struct PriceList {
     pub month: u8,
     // The code of the price multiplier.
     pub multiplier: u8,
-    // How many prices there are; those after them are zero.
+    // How many prices there are; those after them are zero. Stated beside all eight, as it may be stated wrongly.
     pub count: u8,
     pub prices: [u16; 8],
     // Each price lies in a field of so many bits more than eleven.

@@ -38,7 +38,7 @@ fn raised(index: u16, subclass: SubClass) -> u16
 }
 
 impl<C, A> Till<C, A> {
-    // A new till: nothing was drawn yet.
+    // A new till: nothing was drawn yet. Its parts come one by one, as a fitter brings them.
     pub fn new(settings: Settings, cipher: C, authenticator: A) -> Till<C, A>
         ensures { result ≡ new_till settings cipher authenticator }
     {
