@@ -49,7 +49,7 @@ fn from_row<const ROW: u32>(x: u8) -> u32
     requires { ROW < 4 }
     ensures { TurnedDown ROW result (twice x) (once x) (once x) (thrice x) }
 {
-    MIXED[x as usize].rotate_right(8 * ROW)
+    MIXED[usize::from(x)].rotate_right(8 * ROW)
 }
 
 // The bytes that moving the rows puts into one column: one row from each of four columns.

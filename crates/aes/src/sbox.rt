@@ -3,6 +3,7 @@ ghost use Rattle.std.specs.Prelude.{◌≡◌};
 ghost use Rattle.aes.specs.Field.{sbox};
 ghost use Rattle.aes.specs.Substitution.{Substituted, SboxLaw};
 
+// A table of constants: it is looked up for every byte of every round.
 const SBOX: [u8; 256] = [
     0x63, 0x7c, 0x77, 0x7b, 0xf2, 0x6b, 0x6f, 0xc5, 0x30, 0x01, 0x67, 0x2b, 0xfe, 0xd7, 0xab, 0x76,
     0xca, 0x82, 0xc9, 0x7d, 0xfa, 0x59, 0x47, 0xf0, 0xad, 0xd4, 0xa2, 0xaf, 0x9c, 0xa4, 0x72, 0xc0,
@@ -28,7 +29,7 @@ pub fn substitute(x: u8) -> u8
     ensures value { result ≡ sbox x }
     ensures rule { Substituted x result }
 {
-    SBOX[x as usize]
+    SBOX[usize::from(x)]
 }
 
 // The rule of the S-box holds of all 256 bytes.

@@ -50,7 +50,8 @@ fn filled_byte(rest: &[u8], i: usize) -> u8
     }
 }
 
-// Fewer than sixteen bytes as a block, filled up by one set bit and zeros.
+// Fewer than sixteen bytes as a block, filled up by one set bit and zeros. Beside chaining's `block_of`, which would otherwise take the
+// byte at a place as a closure and promise of it what the body says here.
 fn filled_block(rest: &[u8]) -> u128
     ensures { result ≡ block_of (rest.now ++ (128 ∷ [])) }
 {

@@ -1,6 +1,6 @@
 // Images with one byte damaged.
 use crate::fitting::{SIZE, UNUSED};
-use anyhow::{Context, anyhow};
+use anyhow::Context;
 use image::content::Image;
 use image::format::format_record;
 use image::reading::read_image;
@@ -105,7 +105,7 @@ fn full_record() -> Option<Record> {
 
 fn show_record(rt: &HostRuntime, kept: Record) -> anyhow::Result<()> {
     let mut memory = [UNUSED; SIZE];
-    format_record(&mut memory, kept, 962).map_err(|_| anyhow!("the memory is too short"))?;
+    format_record(&mut memory, kept, 962)?;
     show_each(rt, &mut memory)
 }
 

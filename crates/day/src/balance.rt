@@ -34,7 +34,8 @@ fn share(line: &Line) -> Share
     }
 }
 
-// The sums over all lines.
+// The sums over all lines. Five sums in one walk, each with its name; a fold would hand the five on as one value and build it anew at
+// each line.
 pub fn balance(lines: &[Line]) -> Balance
     ensures value { result ≡ balance_of lines.now }
     ensures small { Small result }

@@ -9,7 +9,8 @@ use journal::calls::{Call, Cancellation, Entry, Line, Order, Usage};
 use sale::orders::{PriceList, Sale};
 use std::alloc::{AllocError, Global};
 
-// The number that a call names to be issued or voided; 0 where it names none.
+// The number that a call names to be issued or voided; 0 where it names none, a number that no slip has. An option would be compared
+// with a number that is there.
 fn number_named(call: &Call) -> u32
     ensures { result ≡ number_named call.now }
 {
@@ -30,7 +31,7 @@ fn slip_on(line: &Line, number: u32) -> Option<Issued>
     }
 }
 
-// The slip that was issued for a number.
+// The slip that was issued for a number. By a loop: with `find_map` the proof did not close, as std has no lemma on what it finds.
 fn slip_of(lines: &[Line], number: u32) -> Option<Issued>
     ensures { result ≡ slip_in number lines.now }
 {
@@ -52,8 +53,8 @@ fn digits(slip: &Issued, heap: Global) -> Result<Vec<u8>, AllocError>
 }
 
 // Takes the digit at a place for the next higher one, and 9 for 0.
-fn misread(text: &mut Vec<u8>, place: usize)
-    ensures { text.new.items ≡ misread_as place text.old.items }
+fn misread(text: &mut [u8], place: usize)
+    ensures { text.new ≡ misread_as place text.old }
 {
     if place < text.len() {
         let byte = text[place];
@@ -105,7 +106,7 @@ pub(crate) fn call_of(deed: &Deed, lines: &[Line], heap: Global) -> Result<Optio
                 return Ok(None);
             };
             let mut text = digits(&slip, heap)?;
-            misread(&mut text, place);
+            misread(text.as_mut_slice(), place);
             Call::Enter(Entry { text })
         }
         Deed::Spend { amount } => Call::Spend(Usage { amount }),

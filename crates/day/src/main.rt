@@ -41,7 +41,8 @@ fn open_day(heap: Global) -> Ledger<PlainStore, Clear, ByteSum>
     Ledger::open(till, fitted.into_service(), heap)
 }
 
-// Does one deed: the call that it wants is performed and noted. The ledger goes on keeping the law.
+// Does one deed: the call that it wants is performed and noted. The ledger goes on keeping the law. The heap comes beside it, as std's
+// calls take it too.
 fn perform(
     ledger: &mut Ledger<PlainStore, Clear, ByteSum>,
     deed: &Deed,

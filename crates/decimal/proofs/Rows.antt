@@ -1,4 +1,4 @@
--- A row of text, run one digit after the other (running_more, running_all), its end (row_stops, row_ends), and its check digit with
+-- A row of text, run one digit after the other (running_more, running_all), its end (row_ends), and its check digit with
 -- a digit in front (front-under, row_checks).
 use Rattle.std.proofs.Common.{◌≡◌, ℕ, suc, ◌+◌, ◌-◌, ◌<◌, ◌≤◌, true, false, cond, List, ◌++◌, length, get_or, drop, IfSome, Some, None, Option, sym, refl, ap, ◌∙◌, arith, lit<}
 use Rattle.std.proofs.lemmas.List.{at_drop_more, at_drop_all}
@@ -6,7 +6,7 @@ use Rattle.std.specs.Int.Digits.{AllBelowBase}
 use Rattle.std.specs.List.{list_all}
 use Rattle.decimal.specs.Digits.{is_digit, values}
 use Rattle.decimal.specs.CheckDigits.{product, passes, running, whole, inverse, check_digit, front, check_digit_after, Checks, DigitBefore}
-use Rattle.decimal.proofs.Spelling.{every_stops, every_all, under-values}
+use Rattle.decimal.proofs.Spelling.{every_all, under-values}
 use Rattle.decimal.proofs.Tables.{checks}
 use Rattle.decimal.proofs.Cancels.{running_lt}
 
@@ -24,10 +24,6 @@ unfolding running
 running_all t i place p h = at_drop_all (λ t. running place p (values t)) t i h
 
 -- the row ends at a byte that is no digit, goes on past one that is, and closes
-pub row_stops : (t : List ℕ) (i m : ℕ) → i < length t → is_digit (get_or t i 0) ≡ false → list_all is_digit (drop i t) ≡ list_all is_digit t →
-    None ≡ cond (list_all is_digit t) (Some m) None
-row_stops t i m h e k = let f : list_all is_digit t ≡ false = sym k ∙ every_stops is_digit t i h e in rw f
-
 pub row_ends : (t : List ℕ) (i m n : ℕ) → length t ≤ i → m ≡ n → list_all is_digit (drop i t) ≡ list_all is_digit t →
     Some m ≡ cond (list_all is_digit t) (Some n) None
 row_ends t i m n h e k = let f : list_all is_digit t ≡ true = sym k ∙ every_all is_digit t i h in rw (f, e)

@@ -1,7 +1,7 @@
--- Text and the digits that it spells: what holds of every byte (every_at, every_more, every_stops, every_all, every_set, every_take,
+-- Text and the digits that it spells: what holds of every byte (every_at, every_more, every_all, every_set, every_take,
 -- every_drop), the digits of decimal text (digit_in, under-values, get_or-values), text that digits spell (every-spelled,
 -- values-spelled, spelled-values).
-use Rattle.std.proofs.Common.{◌≡◌, ℕ, zero, suc, ◌+◌, ◌-◌, ◌<◌, ◌≤◌, Bool, true, false, ◌&&◌, leb, List, [], ◌∷◌, length, get_or, take, drop, set, sym, refl, ap, ◌∙◌, arith}
+use Rattle.std.proofs.Common.{◌≡◌, ℕ, zero, suc, ◌+◌, ◌-◌, ◌<◌, ◌≤◌, Bool, true, ◌&&◌, leb, List, [], ◌∷◌, length, get_or, take, drop, set, sym, refl, ap, ◌∙◌, arith}
 use Rattle.std.specs.Int.Digits.{AllBelowBase}
 use Rattle.std.proofs.lemmas.Bool.{and_parts, and_from, leb-true, le-leb}
 use Rattle.std.proofs.lemmas.List.{at_drop_more, at_drop_all, get_or-map}
@@ -16,9 +16,6 @@ every_at p (x ∷ xs) (suc k) e h = every_at p xs k (and_parts (p x) (list_all p
 -- what is left decides: one element on, and at the end
 pub every_more : (p : ℕ → Bool) (xs : List ℕ) (i : ℕ) → i < length xs → p (get_or xs i 0) ≡ true → list_all p (drop (i + 1) xs) ≡ list_all p (drop i xs)
 every_more p xs i h e = sym (at_drop_more (list_all p) xs i 0 h ∙ ap (λ b. b && list_all p (drop (i + 1) xs)) e)
-
-pub every_stops : (p : ℕ → Bool) (xs : List ℕ) (i : ℕ) → i < length xs → p (get_or xs i 0) ≡ false → list_all p (drop i xs) ≡ false
-every_stops p xs i h e = at_drop_more (list_all p) xs i 0 h ∙ ap (λ b. b && list_all p (drop (i + 1) xs)) e
 
 pub every_all : (p : ℕ → Bool) (xs : List ℕ) (i : ℕ) → length xs ≤ i → list_all p (drop i xs) ≡ true
 every_all p xs i h = at_drop_all (list_all p) xs i h

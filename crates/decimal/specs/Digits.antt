@@ -1,6 +1,8 @@
 -- Decimal text and digits: is_digit (a byte is a decimal digit), values (the digits of text), spelled (the text of digits), padded
--- (the digits of a number); up_to (a test that holds of all numbers below a bound).
-use Rattle.std.specs.Prelude.{ℕ, zero, suc, ◌+◌, ◌-◌, ◌/◌, ◌%◌, Bool, true, ◌&&◌, List, [], ◌∷◌, ◌++◌, map, nat_le}
+-- (the digits of a number); number_in (the number that text spells); up_to (a test that holds of all numbers below a bound).
+use Rattle.std.specs.Prelude.{ℕ, zero, suc, ◌+◌, ◌-◌, ◌/◌, ◌%◌, Bool, true, cond, ◌&&◌, List, [], ◌∷◌, ◌++◌, length, map, Option, Some, None, nat_le}
+use Rattle.std.specs.Int.Digits.{number_from_digits}
+use Rattle.std.specs.List.{list_all}
 
 -- from '0', which is the byte 48, to '9'
 abbrev pub is_digit : ℕ → Bool
@@ -20,3 +22,7 @@ spelled digits = map (λ digit. digit + 48) digits
 unfoldable pub padded : ℕ → ℕ → ℕ → List ℕ
 padded b zero n = []
 padded b (suc k) n = padded b k (n / b) ++ (n % b ∷ [])
+
+-- Up to nineteen decimal digits spell a number, the highest first, and none spell 0. Nothing else does.
+unfoldable pub number_in : List ℕ → Option ℕ
+number_in text = cond (nat_le (length text) 19 && list_all is_digit text) (Some (number_from_digits 10 (values text))) None

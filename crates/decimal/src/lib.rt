@@ -5,7 +5,7 @@ ghost use Rattle.decimal.specs.Laws.{NoticesSwap, NoticesWrongDigit, RoundTrip};
 
 pub mod blocks;
 pub mod reading;
-mod text;
+pub mod text;
 pub mod verhoeff;
 pub mod writing;
 
@@ -17,6 +17,7 @@ pub fn round_trip() -> u8
 }
 
 // One wrong digit anywhere in a slip is noticed.
+#[tactic(auto, using(crate::proofs::Noticing::notices_wrong_digit))]
 pub fn notices_wrong_digit() -> u8
     ensures { NoticesWrongDigit }
 {
@@ -24,6 +25,7 @@ pub fn notices_wrong_digit() -> u8
 }
 
 // Two different neighbours among the nineteen digits of one group, keyed in the wrong order, are noticed.
+#[tactic(auto, using(crate::proofs::Noticing::notices_swap))]
 pub fn notices_swap() -> u8
     ensures { NoticesSwap }
 {

@@ -30,7 +30,8 @@ pub(crate) fn check_group(group: &[u8; 20], before: Option<u8>) -> Result<u8, Re
     Ok(last)
 }
 
-// Every group's check digit. That all bytes are digits is known by now: a byte that is none, in whichever group, is told first.
+// Every group's check digit. That all bytes are digits is known by now: a byte that is none, in whichever group, is told first. A loop,
+// as `try_fold` would hand on the digit in an option and end in one that nothing reads.
 fn check_groups(text: &[u8]) -> Result<(), Refusal>
     requires { list_all is_digit text.now ≡ true }
     ensures { result ≡ provided (all_sealed text.now) CheckDigit (Ok tt) }

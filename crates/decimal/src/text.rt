@@ -2,7 +2,10 @@
 ghost use Rattle.std.specs.Prelude.{◌≡◌, ◌-◌, ◌≤◌, true, length, if◌then◌else◌, Some, None};
 ghost use Rattle.std.specs.Int.Digits.{number_from_digits};
 ghost use Rattle.std.specs.List.{list_all};
-ghost use Rattle.decimal.specs.Digits.{is_digit, values, spelled, padded};
+ghost use Rattle.decimal.specs.Digits.{is_digit, values, spelled, padded, number_in};
+
+// As many decimal digits fit 64 bits, whatever they are.
+const MOST_DIGITS: usize = 19;
 
 pub(crate) fn digit_of(byte: u8) -> Option<u8>
     ensures { result ≡ (if is_digit byte then Some (byte - 48) else None) }
@@ -19,7 +22,8 @@ pub(crate) fn all_digits(text: &[u8]) -> bool
     text.iter().all(|byte| byte.is_ascii_digit())
 }
 
-// The number that decimal text spells. Nineteen digits are the most that 64 bits hold whatever they are.
+// The number of decimal text. That it is decimal stands in the contracts and in no type of text: each group and each part of
+// one would have to be made such a text again.
 pub(crate) fn number_of(text: &[u8]) -> u64
     requires decimal { list_all is_digit text.now ≡ true }
     requires short { length text.now ≤ 19 }
@@ -27,6 +31,17 @@ pub(crate) fn number_of(text: &[u8]) -> u64
 {
     text.iter()
         .fold(0, |n, byte| n * 10 + u64::from(*byte - b'0'))
+}
+
+// The number that text spells. None where a byte is no digit, or there are more than nineteen.
+#[tactic(auto, unfolding(crate::specs::Digits::number_in))]
+pub fn number(text: &[u8]) -> Option<u64>
+    ensures { result ≡ number_in text.now }
+{
+    if text.len() > MOST_DIGITS || !all_digits(text) {
+        return None;
+    }
+    Some(number_of(text))
 }
 
 // The last digits of `n`, as many as `out` has room for.

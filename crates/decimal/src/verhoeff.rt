@@ -32,6 +32,8 @@ const POWERS: [[u8; 10]; 8] = [
     [7, 0, 4, 6, 9, 1, 3, 2, 5, 8],
 ];
 
+// That a digit is below 10 stands in four contracts and not in a type: each of them would take the number out again, and each
+// remainder would have to be made a digit.
 #[tactic(auto, using(crate::proofs::Tables::product_at))]
 fn times(a: u8, b: u8) -> u8
     requires left { a < 10 }
@@ -39,7 +41,7 @@ fn times(a: u8, b: u8) -> u8
     ensures value { result ≡ product a b }
     ensures digit { result < 10 }
 {
-    PRODUCT[a as usize][b as usize]
+    PRODUCT[usize::from(a)][usize::from(b)]
 }
 
 #[tactic(auto, using(crate::proofs::Tables::power_at))]
@@ -48,7 +50,7 @@ fn passed(place: usize, digit: u8) -> u8
     ensures value { result ≡ passes place digit }
     ensures digit { result < 10 }
 {
-    POWERS[place % 8][digit as usize]
+    POWERS[place % 8][usize::from(digit)]
 }
 
 // The digit that, multiplied on the right, brings a product to 0.
@@ -59,7 +61,8 @@ fn undone(p: u8) -> u8
     if p < 5 { (5 - p) % 5 } else { p }
 }
 
-// Runs text on from `place`, where the product so far is `start`, and answers the digit that closes the row.
+// Runs text on from `place`, where the product so far is `start`, and answers the digit that closes the row. A loop with `?`: a
+// `try_fold` would say the same, with the place and the product in one closure.
 #[tactic(auto, using(crate::proofs::Spelling::every_more, crate::proofs::Rows::running_more, crate::proofs::Rows::running_all, crate::proofs::Rows::row_ends, crate::proofs::Verdicts::was_some))]
 fn closing(place: usize, start: u8, text: &[u8]) -> Option<u8>
     requires front { place ≤ 1 }

@@ -37,6 +37,8 @@ fn take_away(a: u64, y: u128, m: u64) -> u64
     (a + (m - (y % u128::from(m)) as u64)) % m
 }
 
+// That halves are within their sizes stands in the contracts, as what is below a size depends on the network: a type of halves would
+// hold that network again.
 impl Network<'_> {
     // The number of a round, from its index and the half that stays.
     #[tactic(auto, using(crate::proofs::Rounding::round_is))]

@@ -1,11 +1,11 @@
--- The bytes of a number and the number of bytes: number_spell, length-spell, spell_number; spelled_bytes, where the number
+-- The bytes of a number and the number of bytes: number_spell, spell_number; spelled_bytes, where the number
 -- has room. Assumes nothing.
 use Rattle.std.proofs.Common.{◌≡◌, ℕ, zero, suc, ◌+◌, ◌*◌, ◌/◌, ◌%◌, ◌^◌, ◌<◌, ◌≤◌, List, [], ◌∷◌, length, sym, refl, ap, ◌∙◌, mul-le-mul_right, mod-eq_of_lt, mul_assoc, div-lt_iff_lt-mul, div-add-mod', div-one, arith}
 use native.Mathlib.Nat.{pow-zero, pow-succ', div-eq_of_lt-le, one-le-pow}
 use Rattle.std.specs.Int.Digits.{number_from_digits, number_from_digits_after}
 use Rattle.std.proofs.lemmas.Int.Digits.{number_after_lt}
 use Rattle.spelling.specs.Spelling.{bytes_of}
-use Rattle.spelling.proofs.Apart.{bytes_after, length_bytes}
+use Rattle.spelling.proofs.Apart.{bytes_after}
 use Rattle.fields.specs.Spelling.{spell}
 use Rattle.fields.specs.Fields.{Bytes}
 
@@ -15,10 +15,6 @@ number_spell k n =
     let q = n / 256 ^ k in
     let first : 0 * 256 + q ≡ q = omega arith in
     ap (λ (a : ℕ). number_from_digits_after 256 a (bytes_of k n)) first ∙ bytes_after k q n ∙ div-add-mod' n (256 ^ k)
-
-pub length-spell : (k n : ℕ) → length (spell k n) ≡ k
-length-spell zero n = refl
-length-spell (suc k) n = ap suc (length_bytes k n)
 
 -- what was read before stands above the bytes
 after_least : (a : ℕ) (ds : List ℕ) → a * 256 ^ length ds ≤ number_from_digits_after 256 a ds

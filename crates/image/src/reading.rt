@@ -52,7 +52,7 @@ fn record_fields<'a>(bytes: &'a [u8]) -> Option<RecordFields<'a>>
     })
 }
 
-// The value of the field that comes first, where it is the writes left.
+// The value of the field that comes first, where it is the writes left. A let-else, as for the fields of a record.
 fn writes_field<'a>(bytes: &'a [u8]) -> Option<&'a [u8]>
     ensures value { told_value result ≡ value_at 6 bytes.now }
     ensures width { IfSome result (λ v. length v.now ≡ 4) }

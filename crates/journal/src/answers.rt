@@ -12,7 +12,7 @@ pub struct Drawn {
     pub number: u32,
 }
 
-// A slip that was issued: its eighty bytes, of which the first are digits, and how many these are.
+// A slip that was issued: its eighty bytes, of which the first are digits, and how many these are, as a till fills and answers them.
 #[derive(Clone, Copy)]
 pub struct Issued {
     pub slip: [u8; 80],
@@ -32,7 +32,8 @@ pub enum Answer {
     Refused(Refusal),
 }
 
-// As at a meter alone, a conversion for each kind of success.
+// As at a meter alone, a conversion for each kind of success. No one case holds a meter's answer: its refusal would then be another
+// case than a till's.
 impl From<Result<Taken, Refusal>> for Answer {
     ghost from_gives = { λ entered answer. answer ≡ entry_answer entered };
 

@@ -4,7 +4,6 @@
 pub(crate) mod comparing;
 pub(crate) mod slips;
 
-use anyhow::anyhow;
 use authenticator::Authenticator;
 use cipher::Cipher;
 use cmac::Cmac;
@@ -38,8 +37,7 @@ fn main(rt: HostRuntime) -> anyhow::Result<()> {
         meter: METER,
         multipliers: [1, 10, 100, 0],
         ceiling: 4294967295,
-    })
-    .map_err(|_| anyhow!("the settings are outside their limits"))?;
+    })?;
     let cipher = Ff1::keyed(&GMAC_CIPHER_KEY, METER);
     let till = Till::new(settings, cipher, Gmac::keyed(&GMAC_KEY, METER));
     compare(&rt, "GMAC", till, &GMAC_SLIPS)?;

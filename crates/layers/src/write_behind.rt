@@ -86,7 +86,7 @@ impl<S: Store> Store for WriteBehind<S> {
         if self.below.writes_left() == 0 {
             return false;
         }
-        // A match, as map_or_else would be given two closures, one of them with the store below.
+        // A match: map_or_else is no plainer with two closures, one of which holds the store below.
         let (credit, count) = match self.kept {
             Some(kept) => (kept.newest.credit, kept.count),
             None => (self.below.read().credit, 0),

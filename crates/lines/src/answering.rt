@@ -29,7 +29,8 @@ fn refused_line(heap: Global, number: u8, credit: u32) -> Result<String, AllocEr
     format!(in heap; "R {number} {credit}")
 }
 
-// The line without its newline. A refusal does not carry the credit, so the caller adds what the meter has after the call.
+// The line without its newline. A refusal does not carry the credit, so the caller adds what the meter has after the call, and an
+// answer has no Display of its own.
 pub fn answer_line(heap: Global, answer: Answer, credit: u32) -> Result<String, AllocError>
     ensures { IfOk result (λ line. string_bytes line ≡ answer_text answer credit) }
 {

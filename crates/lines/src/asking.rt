@@ -2,6 +2,8 @@
 ghost use Rattle.std.specs.Prelude.{◌≡◌};
 ghost use Rattle.lines.specs.Asking.{amount_of, request_of, plain, RequestsRead};
 
+use decimal::text::number;
+
 // The most digits of an amount. So many always fit 32 bits.
 const MOST_DIGITS: usize = 9;
 
@@ -15,20 +17,15 @@ pub enum Request<'a> {
 }
 
 // The amount that decimal text spells.
+#[tactic(auto, using(crate::proofs::Amounts::fits), unfolding(crate::specs::Asking::amount_of, decimal::specs::Digits::number_in))]
 fn read_amount(digits: &[u8]) -> Option<u32>
     ensures { result ≡ amount_of digits.now }
 {
     if digits.is_empty() || digits.len() > MOST_DIGITS {
         return None;
     }
-    let mut amount: u32 = 0;
-    for byte in digits {
-        if !byte.is_ascii_digit() {
-            return None;
-        }
-        amount = amount * 10 + u32::from(*byte - b'0');
-    }
-    Some(amount)
+    let amount = number(digits)?;
+    u32::try_from(amount).ok()
 }
 
 // The request of a line, which comes without its newline; none that is known where it is no request.
@@ -43,6 +40,7 @@ pub fn read_request(line: &[u8]) -> Option<Request<'_>>
 }
 
 // Every text can be entered, and every amount of at most nine digits spent.
+#[tactic(auto, using(crate::proofs::Reading::requests_read))]
 pub fn requests_law() -> u8
     ensures { RequestsRead }
 {

@@ -20,7 +20,7 @@ pub(crate) struct Day {
     pub(crate) writes: u32,
 }
 
-// The answer to a line, as text.
+// The answer to a line, as text. `slipbench` replies from a ledger, with a promise of its journal; here a meter answers alone.
 pub(crate) fn reply<S: Store>(
     meter: &mut BenchMeter<S>,
     line: &[u8],

@@ -4,7 +4,6 @@
 mod day;
 mod piles;
 
-use anyhow::anyhow;
 use day::{Bench, Day};
 use layers::length::Length;
 use piles::{Supply, days_over, show_length};
@@ -13,7 +12,7 @@ use store::PlainStore;
 use worked::bench::bench_settings;
 
 fn supply_of(image: u32, below: u32, k: u8) -> anyhow::Result<Supply> {
-    let length = Length::new(k).map_err(|_| anyhow!("the length is outside its limits"))?;
+    let length = Length::new(k)?;
     Ok(Supply {
         image,
         below,
@@ -22,11 +21,11 @@ fn supply_of(image: u32, below: u32, k: u8) -> anyhow::Result<Supply> {
 }
 
 // A mark for the answer of the plain store, and any other answer in full.
-fn show_columns(rt: &HostRuntime, plain: &String, days: &[Day], at: usize) -> anyhow::Result<()> {
+fn show_columns(rt: &HostRuntime, plain: &str, days: &[Day], at: usize) -> anyhow::Result<()> {
     rt.print(" |")?;
     for day in days {
         if let Some(own) = day.answers.get(at) {
-            if *own == *plain {
+            if own.as_str() == plain {
                 rt.print(" =")?;
             } else {
                 print!(rt; " [{own}]")?;

@@ -1,6 +1,5 @@
 // The same day over memories of each kind.
 use crate::day::{Bench, Day, reply};
-use anyhow::anyhow;
 use image::format::format;
 use image_store::ImageStore;
 use layers::length::Length;
@@ -23,7 +22,7 @@ pub(crate) struct Supply {
 // A formatted memory of eighty bytes, of which an image takes 68.
 fn image_store(heap: Global, writes: u32) -> anyhow::Result<ImageStore> {
     let mut memory = vec![in heap; UNUSED; 80]?;
-    format(memory.as_mut_slice(), 0, writes).map_err(|_| anyhow!("the memory is too short"))?;
+    format(memory.as_mut_slice(), 0, writes)?;
     Ok(ImageStore::open(memory))
 }
 

@@ -1,4 +1,4 @@
--- A store that obeys a verdict moves as the verdict says: entry_kept, spend_kept; only_store.
+-- A store that obeys a verdict moves as the verdict says: entry_kept, spend_kept.
 use Rattle.std.proofs.Common.{◌≡◌, ℕ, ◌-◌, ◌<◌, ◌≤◌, List, Ok, Err, Result, sym, refl, ap, ◌∙◌, subst, arith}
 use Rattle.std.proofs.lemmas.Bool.{ltb-true}
 use Rattle.refusal.specs.declared.Refusal.{Refusal}
@@ -57,7 +57,3 @@ module _ {S : Type 0} (kept : S → Record) (writes : S → ℕ) (after : S → 
   spend_kept store new amount p =
       let v = spend_judged (kept store) (writes store) amount in
       subst (λ t. Moved v (kept store) (writes store) (kept t) (writes t)) (sym p) (spend_moves store amount v refl)
-
--- a meter with its store replaced is the meter with the store that it has then
-pub only_store : {S C A : Type 0} (old new : Meter S C A) (store : S) → new ≡ with_store old store → new ≡ with_store old new.parts.store
-only_store old new store p = p ∙ ap (with_store old) (sym (ap (λ m. m.parts.store) p))

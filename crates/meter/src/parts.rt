@@ -1,4 +1,4 @@
-// What a meter is made of.
+// What a meter is made of. It holds its store by value.
 use sealing::sealer::Sealer;
 
 #[derive(Drop)]

@@ -23,7 +23,8 @@ pub struct Meter<S, C, A> {
     parts: Parts<S, C, A>,
 }
 
-// Writes the record, if the store has a write left.
+// Writes the record, if the store has a write left. An if turns the store's answer into a result; `then_some(()).ok_or(..)` would say
+// it with a unit on the way.
 fn keep<S: Store>(store: &mut S, next: Record) -> Result<(), Refusal>
     ensures answer { result ≡ provided (nat_lt 0 (S.writes store.old)) NoWrites (Ok tt) }
     ensures after { store.new ≡ (if nat_lt 0 (S.writes store.old) then S.after store.old next else store.old) }

@@ -18,7 +18,7 @@ use token::subclass::SubClass;
 use token::tariff::Tariff;
 
 // A slip in clear.
-#[derive(Drop)]
+#[derive(Clone, Drop)]
 pub struct Opened {
     pub subclass: SubClass,
     pub first: FirstBlock,

@@ -66,6 +66,7 @@ fn serve(rt: &HostRuntime) -> anyhow::Result<()> {
     let mut ledger = open_bench(heap);
     rt.println("slipbench")?;
     for line in BufReader::new(heap, rt.stdin())?.split(heap, b'\n') {
+        // In words that say what the memory was for.
         let text = reply(&mut ledger, &line?, heap).map_err(|_| anyhow!(
             "no memory is left for the journal"
         ))?;

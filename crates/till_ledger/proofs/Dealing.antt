@@ -1,4 +1,4 @@
--- Single calls at a till with a hand, over plain values: same_till, issue_same; drawn_performed, undrawn_performed; issued_performed,
+-- Single calls at a till with a hand, over plain values: same_till; drawn_performed, undrawn_performed; issued_performed,
 -- unissued_performed; voided_performed; absent_issue, absent_void, of a number that is not in hand.
 use Rattle.std.proofs.Common.{◌≡◌, ℕ, ◌+◌, Bool, true, false, cond, ◌&&◌, ltb, List, Ok, Err, Result, sym, refl, ap, ◌∙◌, subst, arith}
 use Rattle.std.proofs.lemmas.Bool.{cond-true, cond-false}
@@ -34,11 +34,6 @@ use Rattle.till_ledger.proofs.Hands.{in_hand, not_in_hand, back_again}
 -- a till with another index and other counts is the till with those that it has then
 pub same_till : {C A : Type 0} (old new : Till C A) (index : ℕ) (counts : Counts) → new ≡ with_desk old index counts → new ≡ with_desk old new.index new.counts
 same_till old new index counts p = p ∙ (λ i. with_desk old (sym p i).index (sym p i).counts)
-
--- a sale that is issued or not: only index and counts of the till may have changed
-pub issue_same : {C A : Type 0} (old new : Till C A) (b : Bool) (sale : Sale) → new ≡ cond b (after_sale old sale) old → new ≡ with_desk old new.index new.counts
-issue_same old new true sale p = same_till old new _ _ p
-issue_same old new false sale p = same_till old new old.index old.counts p
 
 -- what a draw was, by what was answered
 drawn_ok : (r : Result ℕ Refusal) (d : DrawnNumber) → Ok d ≡ drawing r → r ≡ Ok d.number

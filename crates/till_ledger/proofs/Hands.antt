@@ -1,4 +1,4 @@
--- How often a number is in hand, as the hand changes: not_held, missing, named, gains_removed, gains_push, back_again; in_hand,
+-- How often a number is in hand, as the hand changes: not_held, missing, named, gains_removed, back_again; in_hand,
 -- not_in_hand.
 use Rattle.std.proofs.Common.{◌≡◌, ℕ, suc, ◌+◌, ◌<◌, ◌≤◌, true, false, eqb, ltb, cond, List, [], ◌∷◌, ◌++◌, length, get_or, take, drop, Some, None, sum_by, sym, refl, ap, ◌∙◌, add-one, arith}
 use Rattle.std.specs.List.{remove, position, position_or_len}
@@ -41,12 +41,6 @@ pub gains_removed : (ds : List DrawnNumber) (i n : ℕ) (d : DrawnNumber) → i 
 gains_removed ds i n d lt read is = record {
   long = sym (length-remove ds i lt);
   each = λ k. sum_by_removed (λ x. one x.number k) ds i d lt ∙ ap (λ m. held k (remove ds i) + one m k) (ap (λ x. x.number) (sym read) ∙ is);
-}
-
-pub gains_push : (ds : List DrawnNumber) (n : ℕ) (d : DrawnNumber) → d.number ≡ n → Gains n ds (ds ++ d ∷ [])
-gains_push ds n d is = record {
-  long = length_push ds d;
-  each = λ k. sum_by_push (λ x. one x.number k) ds d ∙ ap (λ m. held k ds + one m k) is;
 }
 
 -- a number that is taken out and put back

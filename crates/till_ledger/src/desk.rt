@@ -15,7 +15,8 @@ use journal::calls::{Cancellation, Order};
 use till::drawn::{DrawnNumber, NotIssued};
 use till::selling::Till;
 
-// None of these calls touches a meter: what they promise holds beside any record and writes left.
+// None of these calls touches a meter: what they promise holds beside any record and writes left. Till and hand stay two parameters, as
+// they are two parts of a ledger of which its law speaks apart.
 pub(crate) fn draw<C, A>(till: &mut Till<C, A>, hand: &mut Vec<DrawnNumber>) -> Answer
     requires { vec_len hand.old < vec_capacity hand.old }
     ensures did { (t s : Suite) (kept : Record) (writes : ℕ) → Performed t s Draw result (desk_world kept writes till.old hand.old.items) (desk_world kept writes till.new hand.new.items) }

@@ -1,6 +1,5 @@
 -- What `found` answers of a value that may be there. Assumes nothing.
 use Rattle.std.proofs.Common.{◌≡◌, ℕ, Some, None, Ok, Err, Option, refl, ap, arith}
-use Rattle.std.specs.Result.{result_ok}
 use Rattle.refusal.specs.Checks.{found}
 use Rattle.refusal.specs.declared.Refusal.{Refusal}
 
@@ -11,7 +10,3 @@ found_ok None e x p = absurd (let z : ◌≡◌ {A = ℕ} 0 1 = cc in omega arit
 pub found_err : {X : Type 0} (o : Option X) (e r : Refusal) → Err r ≡ found o e → (r ≡ e) × (o ≡ None)
 found_err (Some y) e r p = absurd (let z : ◌≡◌ {A = ℕ} 0 1 = cc in omega arith)
 found_err None e r p = ((cc), refl)
-
-pub ok-found : {X : Type 0} (o : Option X) (e : Refusal) → result_ok (found o e) ≡ o
-ok-found (Some x) e = refl
-ok-found None e = refl

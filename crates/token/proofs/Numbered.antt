@@ -56,9 +56,6 @@ pub record Turned (f : List ℕ → List ℕ) (old new : List ℕ) (i : ℕ) : T
   pub left : drop i new ≡ drop i old
   pub done : take i new ++ f (drop i old) ≡ f old
 
-pub turned_none : (f : List ℕ → List ℕ) (xs : List ℕ) → Turned f xs xs 0
-turned_none f xs = record { long = refl; left = refl; done = refl }
-
 pub turned_more : (f : List ℕ → List ℕ) (old new : List ℕ) (i v : ℕ) → i < length old → f (drop i old) ≡ v ∷ f (drop (i + 1) old) → Turned f old new i → Turned f old (set new i v) (i + 1)
 turned_more f old new i v h e t =
     let l = t.long in

@@ -1,9 +1,8 @@
--- The number that ten bits stand for. In a run of at most 1,024 numbers: ends_next, next_of. In the window: as_ends, as_stands,
--- is_recovered, recovers; reached (what recovery answers stands in the window), stands_for (a number of the window is the one
--- that its own ten bits stand for).
-use Rattle.std.proofs.Common.{◌≡◌, ℕ, ◌+◌, ◌-◌, ◌%◌, ◌<◌, ◌≤◌, true, Some, None, Option, refl, ◌∙◌, arith}
+-- The number that ten bits stand for. In a run of at most 1,024 numbers: ends_next, next_of. In the window: as_ends, as_stands;
+-- reached (what recovery answers stands in the window), stands_for (a number of the window is the one that its own ten bits stand for).
+use Rattle.std.proofs.Common.{◌≡◌, ℕ, ◌+◌, ◌-◌, ◌%◌, ◌<◌, ◌≤◌, true, refl, arith}
 use Rattle.std.proofs.lemmas.Bool.{ltb-true, leb-true, lt-ltb, le-leb, and_parts, and_from}
-use Rattle.window.specs.Recovery.{Ends, next_ending, reaches, recovered_in, Only, lowest, uppermost, span, Stands, number_for, in_reach, recovered, Recovers}
+use Rattle.window.specs.Recovery.{Ends, next_ending, reaches, lowest, uppermost, span, Stands, number_for, in_reach}
 
 pub ends_next : (first count low : ℕ) → reaches first count low ≡ true → Ends first count low (next_ending first low)
 ends_next first count low e =
@@ -42,14 +41,6 @@ as_stands h first count low n f c e =
       within = and_from _ _ (le-leb (lowest h) n (omega arith)) (le-leb n (uppermost h) (omega arith));
       tail = e.tail;
     }
-
-pub is_recovered : (h first count low : ℕ) (r : Option ℕ) → first ≡ lowest h → count ≡ span h → r ≡ recovered_in first count low → r ≡ recovered h low
-unfolding number_for in_reach
-is_recovered h first count low r f c e = e ∙ rw (f, c)
-
-pub recovers : (h first count low : ℕ) (r : Option ℕ) → first ≡ lowest h → count ≡ span h → Only first count low r → Recovers h low r
-recovers h first count low None f c o = λ m s. o m (as_ends h first count low m f c s)
-recovers h first count low (Some n) f c o = (as_stands h first count low n f c o.0, λ m s. o.1 m (as_ends h first count low m f c s))
 
 pub reached : (h low : ℕ) → in_reach h low ≡ true → Stands h low (number_for h low)
 unfolding number_for in_reach

@@ -51,7 +51,8 @@ impl Window {
         }
     }
 
-    // None where a mark lies outside the 126 numbers below the highest, or is for a number below 1.
+    // None where a mark lies outside the 126 numbers below the highest, or is for a number below 1. An if, as there is a window only
+    // where the test holds.
     pub fn new(highest: u32, marks: u128) -> Option<Window>
         ensures { result ≡ window_of highest marks }
     {

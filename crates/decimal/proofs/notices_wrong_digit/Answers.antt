@@ -1,5 +1,0 @@
-use Rattle.decimal.proofs.Noticing.{notices_wrong_digit}
-use Rattle.decimal.proofs.notices_wrong_digit.Goals as goal
-
-pub returns : goal.returns
-returns c = notices_wrong_digit
