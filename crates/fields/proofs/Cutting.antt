@@ -1,25 +1,9 @@
--- One field cut off the front: hit, as a slice pattern and a split give it; cut-written, taken-written, of a field that was
--- written; Stood, cut_back, taken_back, of one that was cut. Assumes nothing.
-use Rattle.std.proofs.Common.{◌≡◌, ℕ, ◌+◌, ◌-◌, ◌*◌, ◌/◌, ◌%◌, ◌<◌, ◌≤◌, true, ◌&&◌, eqb, leb, List, [], ◌∷◌, ◌++◌, length, get_or, take, drop, Some, sym, refl, ap, ◌∙◌, subst, arith, length-append, take-append-drop, length-take, take_all, take_at, drop_at}
+-- One field cut off the front: cut-written, taken-written, of a field that was written; Stood, cut_back, taken_back, of one that was cut. Assumes nothing.
+use Rattle.std.proofs.Common.{◌≡◌, ℕ, ◌+◌, ◌*◌, ◌/◌, ◌%◌, ◌<◌, ◌≤◌, true, ◌&&◌, eqb, leb, List, [], ◌∷◌, ◌++◌, length, take, drop, Some, sym, refl, ap, ◌∙◌, subst, arith, length-append, take-append-drop, length-take, take_at, drop_at}
 use Rattle.std.proofs.lemmas.Bool.{le-leb, leb-true, eq-eqb, eqb-true, and_parts}
 use Rattle.std.proofs.ByRecursion.{All-take, All-drop}
 use Rattle.fields.specs.Fields.{Field, field, written, Part, cut_at, cut, fitting, taken, Bytes}
 use Rattle.fields.proofs.Steps.{came, chosen}
-
--- what a slice pattern calls the rest
-abbrev pub tail : List ℕ → List ℕ
-tail bytes = take (length bytes - 3) (drop 3 bytes)
-
-at : (tag n : ℕ) (v r xs : List ℕ) → n ≤ length xs → v ≡ take n xs → r ≡ drop n xs → Some (record { tag = tag; value = v; rest = r }) ≡ cut_at tag n xs
-at tag n v r xs h p q = rw (le-leb n (length xs) h, p, q) refl
-
-pub hit : (bytes v r : List ℕ) → 3 ≤ length bytes → get_or bytes 1 0 * 256 + get_or bytes 2 0 ≤ length (tail bytes) → v ≡ take (get_or bytes 1 0 * 256 + get_or bytes 2 0) (tail bytes) → r ≡ drop (get_or bytes 1 0 * 256 + get_or bytes 2 0) (tail bytes) → Some (record { tag = get_or bytes 0 0; value = v; rest = r }) ≡ cut bytes
-hit [] v r long h p q = absurd (omega arith)
-hit (a ∷ []) v r long h p q = absurd (omega arith)
-hit (a ∷ b ∷ []) v r long h p q = absurd (omega arith)
-hit (a ∷ b ∷ c ∷ xs) v r long h p q =
-    let e : tail (a ∷ b ∷ c ∷ xs) ≡ xs = take_all _ xs (omega arith) in
-    at a (b * 256 + c) v r xs (rw e at h) (rw e at p) (rw e at q)
 
 -- a field is cut off what it stands before
 cut_at_lem : (tag n : ℕ) (v rest : List ℕ) → length v ≡ n → cut_at tag n (v ++ rest) ≡ Some (record { tag = tag; value = v; rest = rest })

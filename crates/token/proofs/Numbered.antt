@@ -1,6 +1,6 @@
 -- Data parts turned into blocks, one by one, and found again. Assumes nothing.
-use Rattle.std.proofs.Common.{◌≡◌, ℕ, suc, ◌+◌, ◌-◌, ◌*◌, ◌%◌, ◌^◌, ◌<◌, ◌≤◌, Bool, true, eqb, reverse, add-zero, ◌&&◌, ltb, leb, List, [], ◌∷◌, ◌++◌, map, length, get_or, take, drop, set, sym, refl, ap, ◌∙◌, append_assoc, div-one, arith, length-drop}
-use Rattle.std.proofs.lemmas.List.{reverse-append, length-reverse, at_drop_more, at_drop_all, take_more_set, drop-set-lt, take_all, append-nil, drop_more, length-set}
+use Rattle.std.proofs.Common.{◌≡◌, ℕ, suc, ◌+◌, ◌*◌, ◌%◌, ◌^◌, ◌<◌, ◌≤◌, Bool, true, eqb, reverse, add-zero, ◌&&◌, ltb, leb, List, [], ◌∷◌, ◌++◌, map, length, take, drop, sym, refl, ap, ◌∙◌, div-one, arith}
+use Rattle.std.proofs.lemmas.List.{reverse-append, length-reverse}
 use Rattle.std.proofs.lemmas.Bool.{and_from, and_parts, eq-eqb, leb-true, ltb-true}
 use Rattle.std.proofs.Math.Bool.{and_comm, and-true}
 use Rattle.std.specs.List.{list_all, enumerate_from}
@@ -55,36 +55,3 @@ pub record Turned (f : List ℕ → List ℕ) (old new : List ℕ) (i : ℕ) : T
   pub long : length new ≡ length old
   pub left : drop i new ≡ drop i old
   pub done : take i new ++ f (drop i old) ≡ f old
-
-pub turned_more : (f : List ℕ → List ℕ) (old new : List ℕ) (i v : ℕ) → i < length old → f (drop i old) ≡ v ∷ f (drop (i + 1) old) → Turned f old new i → Turned f old (set new i v) (i + 1)
-turned_more f old new i v h e t =
-    let l = t.long in
-    let k : i < length new = omega arith in
-    let g = drop_more new i 0 k in
-    let o = drop_more old i 0 h in
-    let rest : drop (i + 1) new ≡ drop (i + 1) old = (let both : get_or new i 0 ∷ drop (i + 1) new ≡ get_or old i 0 ∷ drop (i + 1) old = sym g ∙ t.left ∙ o in cc) in
-    record {
-      long = length-set new i v ∙ l;
-      left = drop-set-lt (i + 1) new i v (omega arith) ∙ rest;
-      done = ap (λ (x : List ℕ). x ++ f (drop (i + 1) old)) (take_more_set new i v k) ∙ append_assoc (take i new) (v ∷ []) (f (drop (i + 1) old)) ∙ ap (λ (x : List ℕ). take i new ++ x) (sym e) ∙ t.done;
-    }
-
-pub turned_all : (f : List ℕ → List ℕ) (old new : List ℕ) (i : ℕ) → f [] ≡ [] → length old ≤ i → Turned f old new i → new ≡ f old
-turned_all f old new i z h t =
-    let l = t.long in
-    let k : length new ≤ i = omega arith in
-    let e : take i new ++ f (drop i old) ≡ new = (λ j. take_all i new k j ++ (at_drop_all f old i h ∙ z) j) ∙ append-nil new in
-    sym e ∙ t.done
-
-pub turned_here : (f : List ℕ → List ℕ) (old new : List ℕ) (i : ℕ) → i < length old → Turned f old new i → get_or new i 0 ≡ get_or old i 0
-turned_here f old new i h t =
-    let l = t.long in
-    let both : get_or new i 0 ∷ drop (i + 1) new ≡ get_or old i 0 ∷ drop (i + 1) old = sym (drop_more new i 0 (omega arith)) ∙ t.left ∙ drop_more old i 0 h in
-    cc
-
--- the block of the part at a place
-pub block_at : (ps : List ℕ) (i v : ℕ) → i < length ps → v ≡ (length ps - 1 - i) * 2 ^ 59 + get_or ps i 0 → numbered (drop i ps) ≡ v ∷ numbered (drop (i + 1) ps)
-block_at ps i v h e =
-    let n : length (drop (i + 1) ps) ≡ length ps - 1 - i = length-drop (i + 1) ps ∙ omega arith in
-    let w : length (drop (i + 1) ps) * 2 ^ 59 + (get_or ps i 0 * 2 ^ 0 + 0) ≡ v = omega (arith, n, e) in
-    at_drop_more numbered ps i 0 h ∙ ap (λ (x : ℕ). x ∷ numbered (drop (i + 1) ps)) w

@@ -8,14 +8,12 @@ use Rattle.token.specs.Widths.{packed, unpacked}
 use Rattle.token.proofs.Packs.{packs}
 use Rattle.token.specs.Limits.{under}
 use Rattle.token.specs.RateLayout.{first_part_widths, second_part_widths, third_part_widths, part_count, size_in}
-use Rattle.token.specs.RatePrices.{fits, three, parts, held, first_part_fields, second_part_fields, third_part_fields, lawful, prices_in, spelled, from_fields, tariff_in, Back, Only, Judged}
+use Rattle.token.specs.RatePrices.{fits, three, parts, first_part_fields, second_part_fields, third_part_fields, lawful, prices_in, spelled, from_fields, tariff_in, Back, Only, Judged}
 use Rattle.token.specs.FurtherBlocks.{carriable}
 use Rattle.token.specs.declared.tariff.Tariff.{Tariff}
-use Rattle.token.specs.declared.parts.Parts.{Parts}
 use Rattle.refusal.specs.Checks.{found}
 use Rattle.refusal.specs.declared.Refusal.{Refusal}
 use Rattle.refusal.specs.declared.Refusal.TheVariants.{RatePrices}
-use Rattle.refusal.proofs.Making.{holds}
 use Rattle.token.proofs.Found.{found_ok, found_err}
 use Rattle.token.proofs.Tariffs.{under_at, limited, long, unused, again, made}
 use Rattle.token.proofs.Fitting.{size_small, fit_first, fit_second, fit_third, first_59, second_59, third_59, part_below}
@@ -210,7 +208,3 @@ parts-carriable t s f =
     let u : under (2 ^ 59) (three t s) ≡ true = rw (a, b, d) refl in
     and_from (leb (length (parts t s)) 3) (under (2 ^ 59) (parts t s))
     (le-leb _ 3 (omega (arith, parts-length t s, (count_few t.count).1))) (under-take (2 ^ 59) (part_count t.count) (three t s) u)
-
-pub held-carriable : (p : Parts) → carriable (held p) ≡ true
-held-carriable p =
-    holds _ p.ok

@@ -1,5 +1,5 @@
 -- Counting a number: what the window tells then (is_counted, counts, highest_counted, marked-counted, not_counted), and what a
--- window tells at all (marked_above, marked_zero, marked_old, marked-blank).
+-- window tells at all (far_bit, marked-blank).
 use Rattle.std.proofs.Common.{◌≡◌, ℕ, ◌+◌, ◌-◌, ◌^◌, ◌<◌, ◌≤◌, max, true, false, cond, ◌&&◌, ◌||◌, eqb, ltb, sym, refl, ap, ◌∙◌, ⊎_elim, arith, ltb→lt, pow_mono}
 use Rattle.std.proofs.lemmas.Bool.{lt-ltb, cases_lt, cond-true, cond-false}
 use Rattle.std.proofs.lemmas.Bool.Decides.{nat_tests}
@@ -24,22 +24,6 @@ pub far_bit : (w : Window) (i : ℕ) → room w.highest ≤ i → bit w.marks i 
 far_bit w i h =
     let fits : w.marks < 2 ^ room w.highest = ltb→lt w.marks (2 ^ room w.highest) w.ok in
     bit_small w.marks i (omega (arith, fits, pow_mono h))
-
-pub marked_above : (w : Window) (k : ℕ) → w.highest < k → marked w k ≡ false
-unfolding marked
-marked_above w k h = grind (arith, nat_tests)
-
-pub marked_old : (w : Window) (k : ℕ) → k + 126 < w.highest → marked w k ≡ false
-unfolding marked
-marked_old w k h =
-    let f = far_bit w (w.highest - 1 - k) (omega arith) in
-    grind (arith, nat_tests, f)
-
-pub marked_zero : (w : Window) → marked w 0 ≡ false
-unfolding marked
-marked_zero w =
-    let f = far_bit w (w.highest - 1 - 0) (omega arith) in
-    grind (arith, nat_tests, f)
 
 pub marked-blank : (k : ℕ) → marked blank_window k ≡ false
 unfolding marked
