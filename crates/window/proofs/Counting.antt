@@ -1,7 +1,7 @@
 -- Counting a number: what the window tells then (is_counted, counts, highest_counted, marked-counted, not_counted), and what a
--- window tells at all (far_bit, marked-blank).
+-- window tells at all (highest_marked, marked_above, marked_zero, marked_old, marked_in_lem, marked-blank).
 use Rattle.std.proofs.Common.{◌≡◌, ℕ, ◌+◌, ◌-◌, ◌^◌, ◌<◌, ◌≤◌, max, true, false, cond, ◌&&◌, ◌||◌, eqb, ltb, sym, refl, ap, ◌∙◌, ⊎_elim, arith, ltb→lt, pow_mono}
-use Rattle.std.proofs.lemmas.Bool.{lt-ltb, cases_lt, cond-true, cond-false}
+use Rattle.std.proofs.lemmas.Bool.{lt-ltb, cases_lt, cases_order, both_ways, cond-true, cond-false}
 use Rattle.std.proofs.lemmas.Bool.Decides.{nat_tests}
 use Rattle.window.specs.Limits.{room}
 use Rattle.window.specs.Bits.{bit, bits_of}
@@ -24,6 +24,35 @@ pub far_bit : (w : Window) (i : ℕ) → room w.highest ≤ i → bit w.marks i 
 far_bit w i h =
     let fits : w.marks < 2 ^ room w.highest = ltb→lt w.marks (2 ^ room w.highest) w.ok in
     bit_small w.marks i (omega (arith, fits, pow_mono h))
+
+pub highest_marked : (w : Window) → 0 < w.highest → marked w w.highest ≡ true
+unfolding marked
+highest_marked w h = grind (arith, nat_tests)
+
+pub marked_above : (w : Window) (k : ℕ) → w.highest < k → marked w k ≡ false
+unfolding marked
+marked_above w k h = grind (arith, nat_tests)
+
+pub marked_old : (w : Window) (k : ℕ) → k + 126 < w.highest → marked w k ≡ false
+unfolding marked
+marked_old w k h =
+    let f = far_bit w (w.highest - 1 - k) (omega arith) in
+    grind (arith, nat_tests, f)
+
+pub marked_zero : (w : Window) → marked w 0 ≡ false
+unfolding marked
+marked_zero w =
+    let f = far_bit w (w.highest - 1 - 0) (omega arith) in
+    grind (arith, nat_tests, f)
+
+-- a marked number is above 0, not above the highest, and at most 126 below it
+pub marked_in_lem : (w : Window) (k : ℕ) → marked w k ≡ true → (0 < k) × (k ≤ w.highest) × (w.highest ≤ k + 126)
+marked_in_lem w k e =
+    let none : marked w k ≡ false → ⊥ = λ f. both_ways (marked w k) f e in (
+      ⊎_elim (λ (z : k ≡ 0). absurd (none (ap (marked w) z ∙ marked_zero w))) (⊎_elim (λ (l : k < 0). absurd (omega arith)) (λ (l : 0 < k). l)) (cases_order k 0),
+      ⊎_elim (λ (l : w.highest < k). absurd (none (marked_above w k l))) (λ (l : k ≤ w.highest). l) (cases_lt w.highest k),
+      ⊎_elim (λ (l : k + 126 < w.highest). absurd (none (marked_old w k l))) (λ (l : w.highest ≤ k + 126). l) (cases_lt (k + 126) w.highest),
+    )
 
 pub marked-blank : (k : ℕ) → marked blank_window k ≡ false
 unfolding marked
