@@ -1,6 +1,6 @@
 // What an entry of digits carries.
 
-use arrayvec::ArrayVec;
+use words::Words;
 
 // The blocks of an entry, one for each group of twenty digits.
-pub type Blocks = ArrayVec<u64, 4>;
+pub type Blocks = Words<4>;

@@ -2,7 +2,7 @@
 #![tactic(auto)]
 
 ghost use Rattle.std.specs.Prelude.{◌≡◌, ℕ};
-ghost use Rattle.sealing.specs.Suites.{suite_of};
+ghost use Rattle.sealing.specs.Suites.{suite};
 ghost use Rattle.entry.specs.Stages.{judged_by};
 
 use authenticator::Authenticator;
@@ -11,7 +11,7 @@ use decimal::reading::read_blocks;
 use record::Record;
 use refusal::Refusal;
 use sealing::opening::open_blocks;
-use sealing::sealer::Sealer;
+use sealing::settings::Settings;
 use weighing::weigh;
 use worth::Worth;
 
@@ -19,15 +19,18 @@ pub mod index;
 mod weighing;
 pub mod worth;
 
-// All checks but that of the store, in the order of their numbers.
+// All checks but that of the store, in the order of their numbers. The three parts are borrowed apart, so that a caller needs to own
+// none of them.
 pub fn judge<C: Cipher, A: Authenticator>(
-    sealer: &Sealer<C, A>,
+    settings: &Settings,
+    cipher: &C,
+    authenticator: &A,
     kept: Record,
     text: &[u8],
 ) -> Result<Worth, Refusal>
-    ensures { result ≡ judged_by (suite_of C.enciphered C.deciphered A.tagged sealer.now) kept text.now }
+    ensures { result ≡ judged_by (suite settings.now (C.enciphered cipher.now) (C.deciphered cipher.now) (A.tagged authenticator.now)) kept text.now }
 {
     let blocks = read_blocks(text)?;
-    let slip = open_blocks(&sealer.cipher, &blocks)?;
-    weigh(sealer, kept, &slip)
+    let slip = open_blocks(cipher, blocks.as_slice())?;
+    weigh(settings, authenticator, kept, &slip)
 }

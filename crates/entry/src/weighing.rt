@@ -9,21 +9,23 @@ use authenticator::Authenticator;
 use record::Record;
 use refusal::Refusal;
 use sealing::opening::Opened;
-use sealing::sealer::Sealer;
+use sealing::settings::Settings;
+use sealing::tag::tag_field;
 use token::subclass::SubClass;
 use token::tariff::Tariff;
 
 // Whether the tag field is the one of the number.
 #[tactic(auto, unfolding(crate::specs::Rules::authentic))]
-fn is_authentic<C, A: Authenticator>(
-    sealer: &Sealer<C, A>,
+fn is_authentic<A: Authenticator>(
+    settings: &Settings,
+    authenticator: &A,
     index: u16,
     slip: &Opened,
     number: u32,
 ) -> bool
-    ensures { result ≡ authentic sealer.now.settings (A.tagged sealer.now.authenticator) index slip.now number }
+    ensures { result ≡ authentic settings.now (A.tagged authenticator.now) index slip.now number }
 {
-    slip.first.tmac == sealer.tag_field(number, index, slip)
+    slip.first.tmac == tag_field(authenticator, settings, number, index, slip)
 }
 
 // The tariff that the slip brings, if its SubClass has one.
@@ -39,28 +41,29 @@ fn new_tariff(slip: &Opened) -> Result<Option<Tariff>, Refusal>
 
 // What is left to check once the number is known.
 #[tactic(auto, unfolding(crate::specs::Stages::reckoned))]
-fn reckon<C, A: Authenticator>(
-    sealer: &Sealer<C, A>,
+fn reckon<A: Authenticator>(
+    settings: &Settings,
+    authenticator: &A,
     kept: Record,
     slip: &Opened,
     number: u32,
 ) -> Result<Worth, Refusal>
-    ensures { result ≡ reckoned sealer.now.settings (A.tagged sealer.now.authenticator) kept slip.now number }
+    ensures { result ≡ reckoned settings.now (A.tagged authenticator.now) kept slip.now number }
 {
-    if !is_authentic(sealer, kept.index, slip, number) {
+    if !is_authentic(settings, authenticator, kept.index, slip, number) {
         return Err(Refusal::WrongTag);
     }
     if kept.window.is_marked(number) {
         return Err(Refusal::AlreadyCounted);
     }
-    let multiplier = sealer.settings.multiplier(slip.first.config);
+    let multiplier = settings.multiplier(slip.first.config);
     if multiplier == 0 {
         return Err(Refusal::ReservedConfig);
     }
     let amount = u32::from(slip.first.amt) * u32::from(multiplier);
     let tariff = new_tariff(slip)?;
     let next = kept
-        .taking(number, amount, tariff, sealer.settings.ceiling)
+        .taking(number, amount, tariff, settings.ceiling)
         .ok_or(Refusal::AboveCeiling)?;
     Ok(Worth {
         number,
@@ -71,12 +74,13 @@ fn reckon<C, A: Authenticator>(
 
 // The checks from the function index on.
 #[tactic(auto, unfolding(crate::specs::Stages::weighed))]
-pub(crate) fn weigh<C, A: Authenticator>(
-    sealer: &Sealer<C, A>,
+pub(crate) fn weigh<A: Authenticator>(
+    settings: &Settings,
+    authenticator: &A,
     kept: Record,
     slip: &Opened,
 ) -> Result<Worth, Refusal>
-    ensures { result ≡ weighed sealer.now.settings (A.tagged sealer.now.authenticator) kept slip.now }
+    ensures { result ≡ weighed settings.now (A.tagged authenticator.now) kept slip.now }
 {
     if !is_raisable(slip.subclass, kept.index) {
         return Err(Refusal::IndexFull);
@@ -85,5 +89,5 @@ pub(crate) fn weigh<C, A: Authenticator>(
         .window
         .recover(slip.first.tstn)
         .ok_or(Refusal::OutsideWindow)?;
-    reckon(sealer, kept, slip, number)
+    reckon(settings, authenticator, kept, slip, number)
 }

@@ -60,7 +60,14 @@ impl<S: Store, C: Cipher, A: Authenticator> Meter<S, C, A> {
         ensures after { self.new ≡ with_store self.old (entry_obeyed S.after (judged (suite_at C.enciphered C.deciphered A.tagged self.old) (S.kept self.old.parts.store) (S.writes self.old.parts.store) text.now) self.old.parts.store) }
     {
         let kept = self.parts.store.read();
-        let worth = judge(&self.parts.sealer, kept, text)?;
+        let sealer = &self.parts.sealer;
+        let worth = judge(
+            &sealer.settings,
+            &sealer.cipher,
+            &sealer.authenticator,
+            kept,
+            text,
+        )?;
         keep(&mut self.parts.store, worth.next)?;
         Ok(Taken {
             number: worth.number,

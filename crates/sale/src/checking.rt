@@ -5,6 +5,7 @@ ghost use Rattle.sale.specs.Sales.{tariff_named, fitting, priced, coded, salable
 ghost use Rattle.sale.specs.Slips.{readied};
 
 use crate::orders::{PriceList, Sale};
+use arrayvec::ArrayVec;
 use decimal::blocks::Blocks;
 use sealing::settings::Settings;
 use token::further::number_parts;
@@ -16,7 +17,7 @@ use token::tariff::Tariff;
 const MOST_AMT: u16 = 8191;
 
 // A sale that can be sold: its SubClass, and its further blocks in clear behind a place for the first.
-#[derive(Drop)]
+#[derive(Clone, Copy)]
 pub struct Ready {
     pub subclass: SubClass,
     pub blocks: Blocks,
@@ -27,12 +28,12 @@ fn behind_first(parts: &[u64]) -> Blocks
     requires { carriable parts.now ≡ true }
     ensures { result ≡ record { items = 0 ∷ numbered parts.now } }
 {
-    let mut blocks = Blocks::new();
+    let mut blocks = ArrayVec::<u64, 4>::new();
     blocks.push(0);
     // Parts that can be carried are three at most.
     blocks.try_extend_from_slice(parts).unwrap();
     number_parts(&mut blocks[1..]);
-    blocks
+    Blocks::from(blocks)
 }
 
 // The blocks that rate prices take, if they can be packed.

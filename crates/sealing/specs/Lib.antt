@@ -4,3 +4,4 @@ pub mod Messages
 pub mod Opening
 pub mod Through
 pub mod Indices
+pub mod Slips

@@ -10,6 +10,7 @@ use arrayvec::ArrayVec;
 use cipher::Cipher;
 use decimal::blocks::Blocks;
 use refusal::Refusal;
+use std::marker::Model;
 use token::first::FirstBlock;
 use token::further::part_of;
 use token::rates::rate_prices;
@@ -18,11 +19,22 @@ use token::subclass::SubClass;
 use token::tariff::Tariff;
 
 // A slip in clear.
-#[derive(Clone, Drop)]
+#[derive(Clone, Copy)]
 pub struct Opened {
     pub subclass: SubClass,
     pub first: FirstBlock,
     pub blocks: Blocks,
+}
+
+// With a model, as of a struct without one that holds such a list the proof does not follow a copy.
+impl Model for Opened {
+    ghost use Rattle.sealing.specs.Slips.{Slip};
+
+    ghost Value = { Slip };
+
+    ghost view = { λ o. record { subclass = o.subclass; first = o.first; blocks = o.blocks } };
+
+    ghost inverse = { λ o. record { subclass = o.subclass; first = o.first; blocks = o.blocks } };
 }
 
 impl Opened {
@@ -50,17 +62,17 @@ impl Opened {
 }
 
 // The slip that blocks hold, or why they hold none.
-#[tactic(auto, using(crate::proofs::Walk::refilled), unfolding(crate::specs::Opening::opened))]
+#[tactic(auto, unfolding(crate::specs::Opening::opened))]
 pub fn open_blocks<C: Cipher>(cipher: &C, blocks: &[u64]) -> Result<Opened, Refusal>
     ensures value { result ≡ opened (C.deciphered cipher.now) blocks.now }
 {
     let subclass = shape(blocks)?;
     // No SubClass takes more than four blocks.
-    let mut blocks = Blocks::try_from(blocks).unwrap();
-    low_through(cipher, Way::Decipher, subclass, &mut blocks);
+    let list = ArrayVec::<u64, 4>::try_from(blocks).unwrap();
+    let clear = low_through(cipher, Way::Decipher, subclass, &Blocks::from(list));
     Ok(Opened {
         subclass,
-        first: FirstBlock::of(blocks[0]),
-        blocks,
+        first: FirstBlock::of(clear.as_slice()[0]),
+        blocks: clear,
     })
 }

@@ -5,8 +5,10 @@ ghost use Rattle.cipher.specs.declared.width.Width.TheVariants.{Further};
 ghost use Rattle.sealing.specs.Opening.{through_block, through_all, through_low};
 ghost use Rattle.sealing.specs.Through.{map_by};
 
+use arrayvec::ArrayVec;
 use cipher::Cipher;
 use cipher::width::Width;
+use decimal::blocks::Blocks;
 use token::subclass::SubClass;
 
 // Which of its two maps a cipher is asked for. With a closure in its place, `low_through` would have to require that it may be
@@ -54,11 +56,16 @@ fn all_through<C: Cipher>(cipher: &C, way: Way, blocks: &mut [u64])
 }
 
 // The blocks of a SubClass with their low bits enciphered or deciphered; those in clear stay as they are.
-pub fn low_through<C: Cipher>(cipher: &C, way: Way, subclass: SubClass, blocks: &mut [u64])
-    ensures { blocks.new ≡ through_low (map_by way (C.enciphered cipher.now) (C.deciphered cipher.now)) subclass blocks.old }
+#[tactic(auto, using(crate::proofs::Walk::refilled))]
+pub fn low_through<C: Cipher>(cipher: &C, way: Way, subclass: SubClass, blocks: &Blocks) -> Blocks
+    ensures { result.items ≡ through_low (map_by way (C.enciphered cipher.now) (C.deciphered cipher.now)) subclass blocks.now.items }
 {
     match subclass {
-        SubClass::Clear => {}
-        SubClass::Enciphered | SubClass::Rates => all_through(cipher, way, blocks),
+        SubClass::Clear => *blocks,
+        SubClass::Enciphered | SubClass::Rates => {
+            let mut list = ArrayVec::from(*blocks);
+            all_through(cipher, way, &mut list);
+            Blocks::from(list)
+        }
     }
 }

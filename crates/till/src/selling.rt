@@ -114,7 +114,16 @@ impl<C: Cipher, A: Authenticator> Till<C, A> {
         ensures after { self.new ≡ (if issuable self.old.sealer.settings self.old.index sale.now then after_sale self.old sale.now else self.old) }
         ensures bytes { slip.new ≡ (if issuable self.old.sealer.settings self.old.index sale.now then slip_for (till_suite C.enciphered C.deciphered A.tagged self.old) drawn.number self.old.index sale.now else slip.old) }
     {
-        match print_slip(&self.sealer, drawn.number(), self.index, sale, slip) {
+        let sealer = &self.sealer;
+        match print_slip(
+            &sealer.settings,
+            &sealer.cipher,
+            &sealer.authenticator,
+            drawn.number(),
+            self.index,
+            sale,
+            slip,
+        ) {
             Ok(printed) => {
                 drawn.end();
                 self.index = raised(self.index, printed.subclass);

@@ -44,7 +44,7 @@ written t size = cond (fits t size) (Some (parts t size)) None
 
 -- the parts that the code made, as a list
 abbrev pub held : Parts → List ℕ
-held p = p.words.items
+held p = p.items
 
 -- the same, where the code made parts
 abbrev pub holding : Option Parts → Option (List ℕ)

@@ -1,11 +1,25 @@
 // At most three data parts, each of 59 bits.
-ghost use Rattle.std.specs.Prelude.{T};
-ghost use Rattle.token.specs.FurtherBlocks.{carriable};
+use std::marker::Model;
+use words::Words;
 
-use arrayvec::ArrayVec;
-
-#[derive(Drop)]
+#[derive(Clone, Copy)]
 pub struct Parts {
-    pub(crate) words: ArrayVec<u64, 3>,
-    ghost ok: { T (carriable words.items) },
+    pub(crate) words: Words<3>,
+}
+
+impl Model for Parts {
+    ghost use Rattle.std.specs.Prelude.{ℕ, T};
+    ghost use Rattle.std.specs.Coded.{coded_ℕ};
+    ghost use Rattle.arrayvec.specs.ArrayVec.{ArrayVec as Items, array_vec_code};
+    ghost use Rattle.token.specs.FurtherBlocks.{carriable};
+
+    ghost Value = { Items ℕ };
+
+    ghost coded = { array_vec_code coded_ℕ };
+
+    ghost view = { λ p. p.words };
+
+    ghost invariant = { λ p. T (carriable p.words.items) };
+
+    ghost inverse = { λ words. record { words = words } };
 }

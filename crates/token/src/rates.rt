@@ -2,6 +2,7 @@
 ghost use Rattle.std.specs.Prelude.{◌≡◌, true};
 ghost use Rattle.refusal.specs.Checks.{found};
 ghost use Rattle.refusal.specs.declared.Refusal.TheVariants.{RatePrices};
+ghost use Rattle.token.specs.FurtherBlocks.{carriable};
 ghost use Rattle.token.specs.RateLayout.{FieldsSmall, PricesSmall};
 ghost use Rattle.token.specs.RatePrices.{fits, parts, written, holding, held, lawful, spelled, tariff_in, Back, Only, Judged, ReadBack};
 
@@ -15,10 +16,12 @@ use crate::size::Size;
 use crate::tariff::Tariff;
 use arrayvec::ArrayVec;
 use refusal::Refusal;
+use words::Words;
 
 impl Parts {
     pub fn as_slice(&self) -> &[u64]
-        ensures { result.now ≡ held self.now }
+        ensures value { result.now ≡ held self.now }
+        ensures carried { carriable result.now ≡ true }
     {
         self.words.as_slice()
     }
@@ -47,7 +50,8 @@ pub fn rate_parts(t: &Tariff, size: u8) -> Option<Parts>
     if !within(size.bits(), &t.prices) {
         return None;
     }
-    let words = words_of(t, size);
+    let list = words_of(t, size);
+    let words = Words::from(list);
     Some(Parts { words })
 }
 
