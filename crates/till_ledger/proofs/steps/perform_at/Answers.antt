@@ -1,4 +1,5 @@
-use Rattle.std.proofs.Common.{vec_items, sym, ap, ◌∙◌, subst}
+use Rattle.std.proofs.Common.{vec_items, sym, ap, ◌∙◌, subst, rules, arith}
+use Rattle.std.proofs.lemmas.List.{take_all}
 use Rattle.entry.specs.Judging.{judged}
 use Rattle.meter.specs.Answering.{taking}
 use Rattle.meter.proofs.Obeying.{entry_kept, spend_kept}
@@ -50,12 +51,13 @@ returns-in-Enter-clause-did g c =
     let met = g.met.S.Store in
     let t = till_suite g.C.Cipher.enciphered g.C.Cipher.deciphered g.A.Authenticator.tagged till in
     let s = suite_at g.C.Cipher.enciphered g.C.Cipher.deciphered g.A.Authenticator.tagged m in
-    let same = c.deref.ensures.value in
+    -- what is keyed in is the text of the entry, in whatever way the code cuts it out
+    let keyed = vec_items c.in-Enter.entry.text in
     subst (λ (call : Call). Performed t s call c.into.result (world_of store.kept store.writes till hand m) (world_of store.kept store.writes till hand n)) (sym c.in-Enter.is)
     (entered t s till hand _ _ _ _ c.in-Enter.entry c.into.result
-    (c.into.ensures ∙ ap entry_answer (c.enter.ensures.answer ∙ ap (λ text. taking (judged s (store.kept m.parts.store) (store.writes m.parts.store) text)) same))
+    (c.into.ensures ∙ ap entry_answer (c.enter.ensures.answer ∙ ap (λ text. taking (judged s (store.kept m.parts.store) (store.writes m.parts.store) text)) (search (rules, arith, take_all))))
     (entry_kept store.kept store.writes store.after met.holds met.most met.least s
-    m.parts.store n.parts.store c.deref.result.now (vec_items c.in-Enter.entry.text) same (ap (λ x. x.parts.store) c.enter.ensures.after)))
+    m.parts.store n.parts.store _ keyed (search (rules, arith, take_all)) (ap (λ x. x.parts.store) c.enter.ensures.after)))
 
 pub returns-in-Spend-clause-did : goal.returns-in-Spend-clause-did
 returns-in-Spend-clause-did g c =
