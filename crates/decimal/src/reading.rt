@@ -11,7 +11,6 @@ ghost use Rattle.decimal.specs.Groups.{grouped, all_sealed, all_blocks, checked_
 use crate::blocks::Blocks;
 use crate::text::{all_digits, digit_of, number_of};
 use crate::verhoeff::check_digit_after;
-use arrayvec::ArrayVec;
 use refusal::Refusal;
 
 // The number of a first group whose block is 0.
@@ -77,11 +76,11 @@ fn blocks_in(text: &[u8]) -> Result<Blocks, Refusal>
     ensures { result ≡ provided (all_blocks text.now) NoBlock (Ok (record { items = blocks_in text.now })) }
 {
     let (groups, _) = text.as_chunks::<20>();
-    let mut blocks = ArrayVec::<u64, 4>::new();
+    let mut blocks = Blocks::new();
     for (i, group) in groups.iter().enumerate() {
         blocks.push(block_of(group, i)?);
     }
-    Ok(Blocks::from(blocks))
+    Ok(blocks)
 }
 
 #[tactic(auto, unfolding(crate::specs::Groups::grouped))]

@@ -7,7 +7,6 @@ ghost use Rattle.sale.specs.Slips.{tag_sold, sealed_blocks, slip_for, readied, p
 
 use crate::checking::{Ready, ready_for};
 use crate::orders::Sale;
-use arrayvec::ArrayVec;
 use authenticator::Authenticator;
 use cipher::Cipher;
 use decimal::blocks::Blocks;
@@ -56,10 +55,10 @@ fn seal<C: Cipher, A: Authenticator>(
         blocks: ready.blocks,
     };
     let tmac = tag_field(authenticator, settings, number, index, &bare);
-    let mut blocks = ArrayVec::from(bare.blocks);
+    let mut blocks = bare.blocks;
     // A sale that can be sold has no field too wide for its place.
-    blocks[0] = FirstBlock { tmac, ..first }.pack().unwrap();
-    low_through(cipher, Way::Encipher, ready.subclass, &Blocks::from(blocks))
+    blocks.set(0, FirstBlock { tmac, ..first }.pack().unwrap());
+    low_through(cipher, Way::Encipher, ready.subclass, &blocks)
 }
 
 // Prints the slip of a sale for a number, at the index that the till keeps: digits first, the rest zero. Refused, the bytes stay as they were.

@@ -1,12 +1,9 @@
--- The cipher over a slip as a list of blocks. Blocks written in place: refilled, walked_more. Parts that can be carried are few and small: few, small. What a SubClass sends its low bits
+-- The cipher over a slip as a list of blocks. Parts that can be carried are few and small: few, small. What a SubClass sends its low bits
 -- through: low_map; a slip of its first block and its data parts goes through it part by part: low_list; where the map keeps the widths,
 -- the parts can be carried still: low_below, map-carriable; and what was enciphered is deciphered to itself: low_back.
-use Rattle.std.proofs.Common.{◌≡◌, ℕ, ◌+◌, ◌*◌, ◌/◌, ◌%◌, ◌^◌, ◌<◌, ◌≤◌, true, ltb, leb, List, [], ◌∷◌, ◌++◌, map, length, get_or, take, drop, set, sym, refl, ap, ◌∙◌, arith}
+use Rattle.std.proofs.Common.{◌≡◌, ℕ, ◌+◌, ◌*◌, ◌/◌, ◌%◌, ◌^◌, ◌<◌, ◌≤◌, true, ltb, leb, List, [], ◌∷◌, map, length, sym, refl, ap, ◌∙◌, arith}
 use Rattle.std.proofs.lemmas.Nat.{shr_high, mod_low}
-use Rattle.std.proofs.lemmas.List.{take_at, length-append, length-map, length-take, length-drop, map-id}
-use Rattle.std.proofs.lemmas.List.Edits.{map_over_more}
-use Rattle.std.proofs.lemmas.Grind.{get_or_default_zero}
-use Rattle.std.specs.List.{refill}
+use Rattle.std.proofs.lemmas.List.{length-map, map-id}
 use Rattle.std.proofs.lemmas.Bool.{and_parts, and_from, leb-true, le-leb, ltb-true, lt-ltb}
 use Rattle.cipher.specs.Widths.{bits}
 use Rattle.cipher.specs.declared.width.Width.{Width}
@@ -17,18 +14,6 @@ use Rattle.token.specs.FurtherBlocks.{carriable, numbered}
 use Rattle.token.specs.Limits.{under}
 use Rattle.sealing.specs.Suites.{Suite, Sound}
 use Rattle.sealing.specs.Opening.{through_block, through_all, through_low}
-
--- a list of blocks that was written over as a slice is that slice
-pub refilled : (blocks slice : List ℕ) → length slice ≡ length blocks → refill (length blocks) blocks slice ≡ slice
-refilled blocks slice l = take_at slice _ (length blocks) l
-
--- one block more is written where a loop has gone over those before it
-pub walked_more : (f : ℕ → ℕ) (old new : List ℕ) (i b : ℕ) → i < length old → new ≡ map f (take i old) ++ drop i old → b ≡ f (get_or new i 0) →
-    set new i b ≡ map f (take (i + 1) old) ++ drop (i + 1) old
-walked_more f old new i b h e w =
-    let l : i < length new = rw e (simp (length-append, length-map, length-take, length-drop) (omega arith)) in
-    let read = sym (get_or_default_zero new i (get_or new i 0) l) in
-    rw w (map_over_more f old new i (get_or new i 0) h e read)
 
 -- at most three parts, each of 59 bits
 pub few : (ps : List ℕ) → carriable ps ≡ true → length ps ≤ 3

@@ -5,7 +5,7 @@ ghost use Rattle.refusal.specs.Checks.{found};
 ghost use Rattle.refusal.specs.declared.Refusal.TheVariants.{RatePrices};
 ghost use Rattle.token.specs.RatePrices.{tariff_in};
 
-use crate::through::{Way, low_through};
+use crate::through::{Way, slice_through};
 use arrayvec::ArrayVec;
 use cipher::Cipher;
 use decimal::blocks::Blocks;
@@ -68,8 +68,7 @@ pub fn open_blocks<C: Cipher>(cipher: &C, blocks: &[u64]) -> Result<Opened, Refu
 {
     let subclass = shape(blocks)?;
     // No SubClass takes more than four blocks.
-    let list = ArrayVec::<u64, 4>::try_from(blocks).unwrap();
-    let clear = low_through(cipher, Way::Decipher, subclass, &Blocks::from(list));
+    let clear = slice_through(cipher, Way::Decipher, subclass, blocks);
     Ok(Opened {
         subclass,
         first: FirstBlock::of(clear.as_slice()[0]),

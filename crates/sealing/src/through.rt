@@ -1,11 +1,9 @@
 // The cipher over the low bits of blocks, one way for enciphering and deciphering.
-ghost use Rattle.std.specs.Prelude.{◌≡◌, ℕ, ◌%◌, ◌^◌, ◌<◌, map};
+ghost use Rattle.std.specs.Prelude.{◌≡◌, ℕ, ◌%◌, ◌^◌, ◌<◌, ◌≤◌, length};
 ghost use Rattle.cipher.specs.Widths.{bits};
-ghost use Rattle.cipher.specs.declared.width.Width.TheVariants.{Further};
 ghost use Rattle.sealing.specs.Opening.{through_block, through_all, through_low};
 ghost use Rattle.sealing.specs.Through.{map_by};
 
-use arrayvec::ArrayVec;
 use cipher::Cipher;
 use cipher::width::Width;
 use decimal::blocks::Blocks;
@@ -36,36 +34,39 @@ fn block_through<C: Cipher>(cipher: &C, way: Way, width: Width, block: u64) -> u
     ((block >> bits) << bits) + turned(cipher, way, width, block)
 }
 
-#[tactic(auto, using(crate::proofs::Walk::walked_more))]
-fn further_through<C: Cipher>(cipher: &C, way: Way, blocks: &mut [u64])
-    ensures { blocks.new ≡ map (through_block (map_by way (C.enciphered cipher.now) (C.deciphered cipher.now)) Further) blocks.old }
+fn all_through<C: Cipher>(cipher: &C, way: Way, blocks: &[u64]) -> Blocks
+    requires { length blocks.now ≤ 4 }
+    ensures { result.items ≡ through_all (map_by way (C.enciphered cipher.now) (C.deciphered cipher.now)) blocks.now }
 {
-    for block in blocks.iter_mut() {
-        *block = block_through(cipher, way, Width::Further, *block);
+    let mut through = Blocks::new();
+    if let [first, further @ ..] = blocks {
+        through.push(block_through(cipher, way, Width::First, *first));
+        for block in further {
+            through.push(block_through(cipher, way, Width::Further, *block));
+        }
+    }
+    through
+}
+
+// The blocks of a SubClass with their low bits enciphered or deciphered, in one pass over a slice; those in clear stay as they are.
+pub(crate) fn slice_through<C: Cipher>(
+    cipher: &C,
+    way: Way,
+    subclass: SubClass,
+    blocks: &[u64],
+) -> Blocks
+    requires { length blocks.now ≤ 4 }
+    ensures { result.items ≡ through_low (map_by way (C.enciphered cipher.now) (C.deciphered cipher.now)) subclass blocks.now }
+{
+    match subclass {
+        SubClass::Clear => Blocks::first_of(blocks),
+        SubClass::Enciphered | SubClass::Rates => all_through(cipher, way, blocks),
     }
 }
 
-fn all_through<C: Cipher>(cipher: &C, way: Way, blocks: &mut [u64])
-    ensures { blocks.new ≡ through_all (map_by way (C.enciphered cipher.now) (C.deciphered cipher.now)) blocks.old }
-{
-    // By index: of what a slice pattern lends for writing, the proof knows the length alone afterwards.
-    if !blocks.is_empty() {
-        blocks[0] = block_through(cipher, way, Width::First, blocks[0]);
-        further_through(cipher, way, &mut blocks[1..]);
-    }
-}
-
-// The blocks of a SubClass with their low bits enciphered or deciphered; those in clear stay as they are.
-#[tactic(auto, using(crate::proofs::Walk::refilled))]
+// The same for a list of blocks.
 pub fn low_through<C: Cipher>(cipher: &C, way: Way, subclass: SubClass, blocks: &Blocks) -> Blocks
     ensures { result.items ≡ through_low (map_by way (C.enciphered cipher.now) (C.deciphered cipher.now)) subclass blocks.now.items }
 {
-    match subclass {
-        SubClass::Clear => *blocks,
-        SubClass::Enciphered | SubClass::Rates => {
-            let mut list = ArrayVec::from(*blocks);
-            all_through(cipher, way, &mut list);
-            Blocks::from(list)
-        }
-    }
+    slice_through(cipher, way, subclass, blocks.as_slice())
 }

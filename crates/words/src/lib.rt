@@ -1,7 +1,7 @@
 // A list of at most so many numbers of 64 bits that is copied as a whole.
 #![tactic(auto)]
 
-ghost use Rattle.std.specs.Prelude.{◌≡◌, ◌≤◌, length};
+ghost use Rattle.std.specs.Prelude.{◌≡◌, ◌≤◌, [], ◌∷◌, ◌++◌, take, length, slice_set};
 
 use arrayvec::ArrayVec;
 use std::marker::Model;
@@ -33,6 +33,45 @@ impl<const MOST: usize> Model for Words<MOST> {
 }
 
 impl<const MOST: usize> Words<MOST> {
+    pub fn new() -> Words<MOST>
+        ensures { result ≡ record { items = [] } }
+    {
+        Words {
+            words: [0; MOST],
+            count: 0,
+        }
+    }
+
+    // One more at the end. Where every place is taken, it is left out.
+    pub fn push(&mut self, n: u64)
+        ensures { self.new.items ≡ take MOST (self.old.items ++ n ∷ []) }
+    {
+        if self.count < MOST {
+            self.words[self.count] = n;
+            self.count += 1;
+        }
+    }
+
+    // Another number at a place. Where the list has none there, it stays as it is.
+    pub fn set(&mut self, place: usize, n: u64)
+        ensures { self.new.items ≡ slice_set self.old.items place n }
+    {
+        if place < self.count {
+            self.words[place] = n;
+        }
+    }
+
+    // The numbers of a slice, as many as there are places for.
+    pub fn first_of(numbers: &[u64]) -> Words<MOST>
+        ensures { result.items ≡ take MOST numbers.now }
+    {
+        let mut words = Words::new();
+        for n in numbers {
+            words.push(*n);
+        }
+        words
+    }
+
     pub fn as_slice(&self) -> &[u64]
         ensures value { result.now ≡ self.now.items }
         ensures fits { length result.now ≤ MOST }

@@ -1,8 +1,5 @@
-use Rattle.std.proofs.Common.{◌≡◌, ℕ, List, length, set, ap, ◌∙◌, length-set}
-use Rattle.std.specs.List.{refill}
-use Rattle.arrayvec.specs.ArrayVec.{ArrayVec}
+use Rattle.std.proofs.Common.{◌≡◌, ap, ◌∙◌}
 use Rattle.token.specs.FirstBlocks.{first_fits}
-use Rattle.sealing.proofs.Walk.{refilled}
 use Rattle.sealing.specs.Opening.{through_low}
 use Rattle.sealing.specs.Suites.{Sound, suite, sealer_of}
 use Rattle.sealing.proofs.Soundness.{sound_of}
@@ -31,15 +28,8 @@ returns g c =
     let s = c.args.settings.now in
     let sale = c.args.sale.now in
     let o = keeps g s c.args.cipher.now c.args.authenticator.now in
-    let blocks = c.from-blocks.result.items in
-    let same : blocks ≡ c.args.ready.blocks.items = ap (λ (v : ArrayVec ℕ). v.items) c.from-blocks.ensures in
     let b = c.unwrap.result in
-    let put : refill (length blocks) blocks (set c.deref_mut.result.now 0 b) ≡ set blocks 0 b =
-    refilled blocks (set c.deref_mut.result.now 0 b) (length-set c.deref_mut.result.now 0 b ∙ ap length c.deref_mut.ensures.value)
-    ∙ ap (λ (xs : List ℕ). set xs 0 b) c.deref_mut.ensures.value in
-    let written : c.from.result.items ≡ set c.args.ready.blocks.items 0 b =
-    ap (λ (v : ArrayVec ℕ). v.items) c.from.ensures ∙ put ∙ ap (λ (xs : List ℕ). set xs 0 b) same in
-    let walked = c.low_through.ensures ∙ ap (through_low (g.C.Cipher.enciphered c.args.cipher.now) c.args.ready.subclass) written in
+    let walked = c.low_through.ensures ∙ ap (through_low (g.C.Cipher.enciphered c.args.cipher.now) c.args.ready.subclass) c.set.ensures in
     filled (suite s (g.C.Cipher.enciphered c.args.cipher.now) (g.C.Cipher.deciphered c.args.cipher.now) (g.A.Authenticator.tagged c.args.authenticator.now))
     c.args.number c.args.index sale c.args.ready c.tag_field-tmac.result b c.pack.result _
     c.requires.readied (c.tag_field-tmac.ensures ∙ tag_is _ c.args.number c.args.index sale c.args.ready c.requires.readied)
