@@ -130,5 +130,12 @@ pub(crate) fn load(block: &[u8; 16]) -> [u32; 4]
 pub(crate) fn store(s: &[u32; 4]) -> [u8; 16]
     ensures { result ≡ unpacked s.now }
 {
-    array::from_fn(|i| s[i / 4].to_be_bytes()[i % 4])
+    let [a, b, c, d] = *s;
+    let columns = [
+        a.to_be_bytes(),
+        b.to_be_bytes(),
+        c.to_be_bytes(),
+        d.to_be_bytes(),
+    ];
+    columns.as_flattened().try_into().unwrap()
 }
