@@ -19,22 +19,23 @@ pub was_ready : (s : Settings) (sale : Sale) (ready : Ready) → Some ready ≡ 
     (salable s sale ≡ true) × (ready ≡ readied sale)
 was_ready s sale ready e = ready_when (salable s sale) sale ready e
 
-module _ (s : Suite) (o : Sound s) (number index : ℕ) (sale : Sale) (can : salable s.settings sale ≡ true) (bs : List ℕ)
-    (is : bs ≡ sealed_blocks s number index sale) where
+-- the list that was written is named by what writing it answered
+module _ (s : Suite) (o : Sound s) (number index : ℕ) (sale : Sale) (can : salable s.settings sale ≡ true) (bs : List ℕ) (answer : Option ℕ)
+    (told : answer ≡ cond (writable bs) (Some (20 * length bs)) None) (is : bs ≡ sealed_blocks s number index sale) where
   able : writable bs ≡ true
   able =
       ap writable is ∙ blocks_writable s number index sale (sealed s o number index sale (sold_by s.settings sale can))
 
   -- it can be written
-  pub writes : (answer : Option ℕ) → answer ≡ cond (writable bs) (Some (20 * length bs)) None → is_some answer ≡ true
-  writes answer e = ap is_some (e ∙ cond-true (writable bs) _ _ able)
+  pub writes : is_some answer ≡ true
+  writes = ap is_some (told ∙ cond-true (writable bs) _ _ able)
 
   -- what is answered, and what the bytes are
-  pub prints : (answer : Option ℕ) (n : ℕ) (old new : List ℕ) → answer ≡ cond (writable bs) (Some (20 * length bs)) None → answer ≡ Some n →
-      new ≡ cond (writable bs) (slip_of bs) old → (n ≡ slip_length sale) × (new ≡ slip_for s number index sale)
-  prints answer n old new e p q =
+  pub prints : (n : ℕ) (old new : List ℕ) → answer ≡ Some n → new ≡ cond (writable bs) (slip_of bs) old →
+      (n ≡ slip_length sale) × (new ≡ slip_for s number index sale)
+  prints n old new p q =
       let z = sealed s o number index sale (sold_by s.settings sale can) in
-      let long : Some n ≡ Some (20 * length bs) = sym p ∙ e ∙ cond-true (writable bs) _ _ able in
+      let long : Some n ≡ Some (20 * length bs) = sym p ∙ told ∙ cond-true (writable bs) _ _ able in
       let same : n ≡ 20 * length bs = cc in (
         same ∙ ap (λ k. 20 * k) (ap length is ∙ blocks_length s number index sale z),
         q ∙ cond-true (writable bs) _ _ able ∙ ap slip_of is,

@@ -80,7 +80,7 @@ impl<const MOST: usize> Words<MOST> {
     }
 }
 
-// An ArrayVec cannot be copied, but is filled and written in place.
+// A function of a slice can write over an ArrayVec, which cannot be copied; so each is made of the other.
 impl<const MOST: usize> From<ArrayVec<u64, MOST>> for Words<MOST> {
     ghost from_gives = { λ list words. words ≡ list };
 

@@ -1,5 +1,6 @@
-use Rattle.std.proofs.Common.{◌≡◌, true, cond, ◌&&◌, Ok, sym, ap, ◌∙◌}
+use Rattle.std.proofs.Common.{◌≡◌, true, cond, ◌&&◌, Ok, sym, ap, ◌∙◌, arith, rules}
 use Rattle.std.specs.Result.{result_ok}
+use Rattle.std.proofs.lemmas.List.{take_all}
 use Rattle.refusal.specs.Checks.{provided}
 use Rattle.refusal.specs.declared.Refusal.TheVariants.{Sale as NoSale, TillIndexFull}
 use Rattle.token.specs.SubClasses.{sub_class_named}
@@ -22,7 +23,7 @@ unwrap-length-requires g c =
     let some = c.ok_or.ensures.ok_part ∙ ap result_ok c.in_ok-ready.was in
     let ready = was_ready s sale c.in_ok-ready.ready (sym some ∙ c.ready_for.ensures) in
     writes _ (keeps g s c.args.cipher.now c.args.authenticator.now) c.args.number c.args.index sale ready.0
-    c.as_slice.result.now (c.as_slice.ensures.value ∙ c.seal-blocks.ensures) c.write_blocks.result c.write_blocks.ensures.answer
+    _ c.write_blocks.result c.write_blocks.ensures.answer (search (rules, arith, take_all))
 
 pub returns : goal.returns
 returns g c =
@@ -35,8 +36,8 @@ returns g c =
     let k : c.in_ok-ready.ready.subclass ≡ sub_class_named sale.subclass = ap (λ (r : Ready). r.subclass) ready.1 in
     let up : raisable (sub_class_named sale.subclass) index ≡ true = ap (λ x. raisable x index) (sym k) ∙ sym c.if-not-is_raisable.ensures in
     let out = prints agreed (keeps g s c.args.cipher.now c.args.authenticator.now) c.args.number index sale ready.0
-    c.as_slice.result.now (c.as_slice.ensures.value ∙ c.seal-blocks.ensures) c.write_blocks.result c.unwrap-length.result
-    c.args.slip.now c.write_blocks.new.slip c.write_blocks.ensures.answer c.unwrap-length.ensures c.write_blocks.ensures.bytes in
+    _ c.write_blocks.result c.write_blocks.ensures.answer (search (rules, arith, take_all))
+    c.unwrap-length.result c.args.slip.now c.write_blocks.new.slip c.unwrap-length.ensures c.write_blocks.ensures.bytes in
     record {
       answer = λ i. provided (sym ready.0 i) NoSale (provided (sym up i) TillIndexFull (Ok (record { length = out.0 i; subclass = k i })));
       bytes = out.1 ∙ (λ i. cond (sym ready.0 i && sym up i) (slip_for agreed c.args.number index sale) c.args.slip.now);
