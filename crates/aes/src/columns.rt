@@ -137,5 +137,6 @@ pub(crate) fn store(s: &[u32; 4]) -> [u8; 16]
         c.to_be_bytes(),
         d.to_be_bytes(),
     ];
+    // Four columns are sixteen bytes.
     columns.as_flattened().try_into().unwrap()
 }

@@ -69,7 +69,7 @@ fn block_of(group: &[u8; 20], i: usize) -> Result<u64, Refusal>
 }
 
 // Every group's block.
-#[tactic(auto, using(crate::proofs::Grouping::group_is, crate::proofs::Grouping::group_digits_all, crate::proofs::Grouping::block_there, crate::proofs::Grouping::blocks_more, crate::proofs::Bounded::up_more), unfolding(crate::specs::Groups::all_blocks, crate::specs::Groups::blocks_in))]
+#[tactic(auto, using(crate::proofs::Grouping::group_is, crate::proofs::Grouping::group_digits_all), unfolding(crate::specs::Groups::all_blocks, crate::specs::Groups::blocks_in))]
 fn blocks_in(text: &[u8]) -> Result<Blocks, Refusal>
     requires decimal { list_all is_digit text.now ≡ true }
     requires whole { grouped text.now ≡ true }

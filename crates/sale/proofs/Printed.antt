@@ -19,7 +19,7 @@ pub was_ready : (s : Settings) (sale : Sale) (ready : Ready) → Some ready ≡ 
     (salable s sale ≡ true) × (ready ≡ readied sale)
 was_ready s sale ready e = ready_when (salable s sale) sale ready e
 
--- the list that was written is named by what writing it answered
+-- the blocks bs are found from what writing them answered, so that a proof need not name how the slice of them was made
 module _ (s : Suite) (o : Sound s) (number index : ℕ) (sale : Sale) (can : salable s.settings sale ≡ true) (bs : List ℕ) (answer : Option ℕ)
     (told : answer ≡ cond (writable bs) (Some (20 * length bs)) None) (is : bs ≡ sealed_blocks s number index sale) where
   able : writable bs ≡ true

@@ -56,7 +56,7 @@ fn seal<C: Cipher, A: Authenticator>(
     };
     let tmac = tag_field(authenticator, settings, number, index, &bare);
     let mut blocks = bare.blocks;
-    // A sale that can be sold has no field too wide for its place.
+    // A sale that can be sold has no field too wide for its place, and one made ready has a place for its first block.
     blocks.set(0, FirstBlock { tmac, ..first }.pack().unwrap());
     low_through(cipher, Way::Encipher, ready.subclass, &blocks)
 }

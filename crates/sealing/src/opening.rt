@@ -5,7 +5,7 @@ ghost use Rattle.refusal.specs.Checks.{found};
 ghost use Rattle.refusal.specs.declared.Refusal.TheVariants.{RatePrices};
 ghost use Rattle.token.specs.RatePrices.{tariff_in};
 
-use crate::through::{Way, slice_through};
+use crate::through::{Way, low_through_slice};
 use arrayvec::ArrayVec;
 use cipher::Cipher;
 use decimal::blocks::Blocks;
@@ -68,7 +68,7 @@ pub fn open_blocks<C: Cipher>(cipher: &C, blocks: &[u64]) -> Result<Opened, Refu
 {
     let subclass = shape(blocks)?;
     // No SubClass takes more than four blocks.
-    let clear = slice_through(cipher, Way::Decipher, subclass, blocks);
+    let clear = low_through_slice(cipher, Way::Decipher, subclass, blocks);
     Ok(Opened {
         subclass,
         first: FirstBlock::of(clear.as_slice()[0]),

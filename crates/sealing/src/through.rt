@@ -49,7 +49,7 @@ fn all_through<C: Cipher>(cipher: &C, way: Way, blocks: &[u64]) -> Blocks
 }
 
 // The blocks of a SubClass with their low bits enciphered or deciphered, in one pass over a slice; those in clear stay as they are.
-pub(crate) fn slice_through<C: Cipher>(
+pub(crate) fn low_through_slice<C: Cipher>(
     cipher: &C,
     way: Way,
     subclass: SubClass,
@@ -59,14 +59,14 @@ pub(crate) fn slice_through<C: Cipher>(
     ensures { result.items ≡ through_low (map_by way (C.enciphered cipher.now) (C.deciphered cipher.now)) subclass blocks.now }
 {
     match subclass {
-        SubClass::Clear => Blocks::first_of(blocks),
+        SubClass::Clear => Blocks::leading(blocks),
         SubClass::Enciphered | SubClass::Rates => all_through(cipher, way, blocks),
     }
 }
 
-// The same for a list of blocks.
+// The same for a list of blocks. It lends nothing for writing: what it is given stays as it was.
 pub fn low_through<C: Cipher>(cipher: &C, way: Way, subclass: SubClass, blocks: &Blocks) -> Blocks
     ensures { result.items ≡ through_low (map_by way (C.enciphered cipher.now) (C.deciphered cipher.now)) subclass blocks.now.items }
 {
-    slice_through(cipher, way, subclass, blocks.as_slice())
+    low_through_slice(cipher, way, subclass, blocks.as_slice())
 }

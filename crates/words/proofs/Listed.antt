@@ -3,7 +3,7 @@ use Rattle.std.proofs.Common.{ℕ, List, ◌≡◌, ◌<◌, ◌≤◌, ◌-◌,
 use Rattle.std.proofs.lemmas.List.{drop-set-lt, length-set, length-take-le, drop-drop, drop-replicate}
 use Rattle.words.specs.Listing.{Kept}
 
--- one more is used, whichever of the places used is written, and those behind them are zero as before
+-- one more is used, whether a place used before or the next one is written, and those behind them are zero as before
 pub one_more : (most n k : ℕ) (ws : List ℕ) (w : ℕ) → Kept most n ws → n < most → k ≤ n → Kept most (n + 1) (slice_set ws k w)
 one_more most n k ws w kept room at =
     let places = length-set ws k w ∙ kept.places in

@@ -32,6 +32,7 @@ impl<const MOST: usize> Model for Words<MOST> {
     ghost inverse_ok = { λ w kept i. record { words = whole MOST w.count w.words kept i; count = kept.used i } };
 }
 
+// Filled and written in place: an entry whose blocks went by way of an ArrayVec cost up to 1.3 times the instructions.
 impl<const MOST: usize> Words<MOST> {
     pub fn new() -> Words<MOST>
         ensures { result ≡ record { items = [] } }
@@ -42,7 +43,7 @@ impl<const MOST: usize> Words<MOST> {
         }
     }
 
-    // One more at the end. Where every place is taken, it is left out.
+    // One more at the end. A number for which there is no place is left out.
     pub fn push(&mut self, n: u64)
         ensures { self.new.items ≡ take MOST (self.old.items ++ n ∷ []) }
     {
@@ -61,8 +62,8 @@ impl<const MOST: usize> Words<MOST> {
         }
     }
 
-    // The numbers of a slice, as many as there are places for.
-    pub fn first_of(numbers: &[u64]) -> Words<MOST>
+    // The numbers at the beginning of a slice, as many as there are places for.
+    pub fn leading(numbers: &[u64]) -> Words<MOST>
         ensures { result.items ≡ take MOST numbers.now }
     {
         let mut words = Words::new();
@@ -80,7 +81,7 @@ impl<const MOST: usize> Words<MOST> {
     }
 }
 
-// A function of a slice can write over an ArrayVec, which cannot be copied; so each is made of the other.
+// From a list that a function of a slice has written over: a Words lends its numbers for reading alone.
 impl<const MOST: usize> From<ArrayVec<u64, MOST>> for Words<MOST> {
     ghost from_gives = { λ list words. words ≡ list };
 
@@ -94,6 +95,7 @@ impl<const MOST: usize> From<ArrayVec<u64, MOST>> for Words<MOST> {
     }
 }
 
+// And back, to be written over by one.
 impl<const MOST: usize> From<Words<MOST>> for ArrayVec<u64, MOST> {
     ghost from_gives = { λ words list. list ≡ words };
 
