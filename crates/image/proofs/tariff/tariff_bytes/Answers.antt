@@ -14,6 +14,7 @@ returns c =
     let l : length ps ≡ 8 = search rules in
     let small : (i : ℕ) → get_or ps i 0 < 65536 = λ i. omega (arith, small_price c.in-Some.t i) in
     let spelled = mapped_calls (to_be_bytes w16) 0 [] c.map-prices.ensures.items l (λ x y p q k. search (rules, tests)) in
+    -- the bytes that lie flat are those of the prices, also where one is written over by itself
     let flat : c.as_flattened.result.now ≡ flat_map (λ (x : List ℕ). x) c.map-prices.result = search (rules, set-get_or) in
     let e : c.copy_from_slice-2.new.self ≡ halves ps =
     c.copy_from_slice-2.ensures.after ∙ flat ∙ ap (flat_map (λ x. x)) spelled ∙ halves_flat ps small in

@@ -22,6 +22,7 @@ unwrap-length-requires g c =
     let sale = c.args.sale.now in
     let some = c.ok_or.ensures.ok_part ∙ ap result_ok c.in_ok-ready.was in
     let ready = was_ready s sale c.in_ok-ready.ready (sym some ∙ c.ready_for.ensures) in
+    -- what is written is the sealed blocks, in whatever way the code names them
     writes _ (keeps g s c.args.cipher.now c.args.authenticator.now) c.args.number c.args.index sale ready.0
     _ c.write_blocks.result c.write_blocks.ensures.answer (search (rules, arith, take_all))
 
@@ -35,6 +36,7 @@ returns g c =
     let ready = was_ready s sale c.in_ok-ready.ready (sym some ∙ c.ready_for.ensures) in
     let k : c.in_ok-ready.ready.subclass ≡ sub_class_named sale.subclass = ap (λ (r : Ready). r.subclass) ready.1 in
     let up : raisable (sub_class_named sale.subclass) index ≡ true = ap (λ x. raisable x index) (sym k) ∙ sym c.if-not-is_raisable.ensures in
+    -- and so here
     let out = prints agreed (keeps g s c.args.cipher.now c.args.authenticator.now) c.args.number index sale ready.0
     _ c.write_blocks.result c.write_blocks.ensures.answer (search (rules, arith, take_all))
     c.unwrap-length.result c.args.slip.now c.write_blocks.new.slip c.unwrap-length.ensures c.write_blocks.ensures.bytes in
